@@ -1,0 +1,95 @@
+-- Sets over a table: evaluating, reaching, one after another, choosing, and the set in its own numbering.
+use Prim.Native.Nat.{ℕ, zero, suc, _+_}
+use mathlib.Core.Bool.{Bool, true, false, cond}
+use mathlib.Core.List.{List, [], _∷_, _++_, map}
+use lib.ListN.{length, getD}
+use lib.Dec.{eqb}
+use Rattle.rules.specs.Lists.{from, elem}
+use Rattle.rules.specs.Rows.{Row, leaf, inv, bin, base, rowAt, value, Added, add}
+
+-- R36: a table and a head, a row number, for each cell.
+pub record Heads : Type 0 where
+  pub tab : List Row
+  pub heads : List ℕ
+
+-- R36: evaluating: every cell gets the value of its head on the storage before.
+unfoldable pub act : List Row → List ℕ → List Bool → List Bool
+act t x s = map (value t s) x
+
+-- R37: the set that changes nothing: each cell's head is the cell's own row.
+unfoldable pub unchanging : ℕ → List ℕ
+unchanging C = from 2 C
+
+-- R30: the rows that a row names.
+abbrev pub operands : Row → List ℕ
+operands (leaf i) = []
+operands (inv a) = a ∷ []
+operands (bin o a b) = a ∷ b ∷ []
+
+-- R38: the numbers in x, and those that the rows below k among them name, and so on down.
+unfoldable pub needs : List Row → ℕ → List ℕ → List ℕ
+needs t zero x = x
+needs t (suc k) x = needs t k (cond (elem k x) (operands (rowAt t k) ++ x) x)
+
+-- R38: whether the heads x reach row k.
+abbrev pub reaches : List Row → List ℕ → ℕ → Bool
+reaches t x k = elem k (needs t (length t) x)
+
+-- R39: a row with its operands renumbered: a constant or cell c by x, the others by `new`.
+abbrev pub renumber : List ℕ → List ℕ → Row → Row
+renumber x new (leaf i) = leaf (getD (0 ∷ 1 ∷ x) i 0)
+renumber x new (inv a) = inv (getD new a 0)
+renumber x new (bin o a b) = bin o (getD new a 0) (getD new b 0)
+
+-- R39: a table that rows are carried to, and the new number of each row carried so far.
+pub record Carried : Type 0 where
+  pub tab : List Row
+  pub new : List ℕ
+
+-- R39: carries one row over if it is wanted; one that is not gets no place.
+abbrev pub carryRow : (List Row → Row → Added) → List ℕ → Carried → Row → Bool → Carried
+carryRow put x m r false = record { tab = m .tab; new = m .new ++ (0 ∷ []) }
+carryRow put x m r true =
+    let a = put (m .tab) (renumber x (m .new) r) in
+    record { tab = a .tab; new = m .new ++ (a .row ∷ []) }
+
+-- R39: carries the first k rows of u to t by `put`, those that y reaches, in rising number, with cell c replaced by x's head c.
+unfoldable pub carry : (List Row → Row → Added) → List Row → List ℕ → List Row → List ℕ → ℕ → Carried
+carry put t x u y zero = record { tab = t; new = [] }
+carry put t x u y (suc k) = carryRow put x (carry put t x u y k) (rowAt u k) (reaches u y k)
+
+-- R39: the heads y where all rows that they reach have been carried.
+abbrev pub moved : Carried → List ℕ → Heads
+moved m y = record { tab = m .tab; heads = map (λ h. getD (m .new) h 0) y }
+
+-- R39: the set (u, y) after the set (t, x): y's rows added to t by the rule.
+unfoldable pub after : List Row → List ℕ → List Row → List ℕ → Heads
+after t x u y = moved (carry add t x u y (length u)) y
+
+-- R40: puts a row at the end, whatever stands in the table; constants and cells stand already.
+abbrev pub append : List Row → Row → Added
+append t (leaf i) = record { tab = t; row = i }
+append t (inv a) = record { tab = t ++ (inv a ∷ []); row = length t }
+append t (bin o a b) = record { tab = t ++ (bin o a b ∷ []); row = length t }
+
+-- R40: a set of C cells as its file has it: the rows that its heads reach, in order, renumbered.
+unfoldable pub squeeze : ℕ → List Row → List ℕ → Heads
+squeeze C t x = moved (carry append (base C) (unchanging C) t x (length t)) x
+
+-- R41: one cell's choice by row f of the heads x and y: x if f is 1, else y.
+unfoldable pub choose : List Row → ℕ → ℕ → ℕ → Added
+choose t f x y =
+    cond (eqb x y) (record { tab = t; row = x })
+    (let n = add t (inv f) in
+    let a = add (n .tab) (bin true f x) in
+    let b = add (a .tab) (bin true (n .row) y) in
+    add (b .tab) (bin false (a .row) (b .row)))
+
+-- R41: choice by row f of the sets x and y, cells in order.
+unfoldable pub choice : List Row → ℕ → List ℕ → List ℕ → Heads
+choice t f [] ys = record { tab = t; heads = [] }
+choice t f (x ∷ xs) [] = record { tab = t; heads = [] }
+choice t f (x ∷ xs) (y ∷ ys) =
+    let h = choose t f x y in
+    let rest = choice (h .tab) f xs ys in
+    record { tab = rest .tab; heads = h .row ∷ rest .heads }
