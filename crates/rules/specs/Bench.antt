@@ -31,7 +31,7 @@ pub data Deed : Type 0 where
   prints : List ℕ → Deed
 
 -- what it gives: nothing more than the grant; the steps and the storage; bytes
-pub answer : Deed → Verdict (List ℕ)
+unfoldable pub answer : Deed → Verdict (List ℕ)
 answer (checksProgram file) = readProgram old file >>= λ P. granted []
 answer (checksSet file) = readSet old file >>= λ z. granted []
 answer (scans file s budget) = scan old file s budget >>= λ z. granted (z .steps ∷ storageBytes (z .storage))
@@ -155,20 +155,26 @@ bench =
     ∷ (scans maybeCall (1 ∷ 0 ∷ 1 ∷ 0 ∷ []) 3, granted (3 ∷ 0 ∷ 1 ∷ 0 ∷ 0 ∷ []))
     ∷ (scans maybeCall (0 ∷ 1 ∷ 1 ∷ 0 ∷ []) 4, granted (4 ∷ 1 ∷ 1 ∷ 0 ∷ 0 ∷ []))
     ∷ (scans doubled (0 ∷ 0 ∷ 1 ∷ 0 ∷ []) 5, granted (5 ∷ 1 ∷ 1 ∷ 0 ∷ 0 ∷ []))
-    ∷ (builds ordered 99 99 99 99, granted (2 ∷ 2 ∷ 2 ∷ 1 ∷ 0 ∷ 3 ∷ 0 ∷ (flatMap (bytesOf 2) (2 ∷ 3 ∷ 10 ∷ 1 ∷ 0 ∷ 0 ∷ [])
-        ++ (1 ∷ 2 ∷ 0 ∷ 0 ∷ 0 ∷ 1 ∷ 3 ∷ 0 ∷ 0 ∷ 0 ∷ 2 ∷ 8 ∷ 0 ∷ 9 ∷ 0 ∷ []))))
+    ∷ (
+      builds ordered 99 99 99 99,
+      granted (2 ∷ 2 ∷ 2 ∷ 1 ∷ 0 ∷ 3 ∷ 0 ∷ (flatMap (bytesOf 2) (2 ∷ 3 ∷ 10 ∷ 1 ∷ 0 ∷ 0 ∷ [])
+          ++ (1 ∷ 2 ∷ 0 ∷ 0 ∷ 0 ∷ 1 ∷ 3 ∷ 0 ∷ 0 ∷ 0 ∷ 2 ∷ 8 ∷ 0 ∷ 9 ∷ 0 ∷ []))),
+    )
     ∷ (checksProgram (set (set edge 9 3) 17 99), refused 4 9)
-    ∷ (prints edgeSet, granted (
-        99 ∷ 101 ∷ 108 ∷ 108 ∷ 115 ∷ 32 ∷ 54 ∷ 32 ∷ 114 ∷ 111 ∷ 119 ∷ 115 ∷ 32 ∷ 51 ∷ 10 ∷
-        99 ∷ 48 ∷ 32 ∷ 61 ∷ 32 ∷ 114 ∷ 50 ∷ 10 ∷
-        99 ∷ 49 ∷ 32 ∷ 61 ∷ 32 ∷ 114 ∷ 49 ∷ 48 ∷ 10 ∷
-        99 ∷ 50 ∷ 32 ∷ 61 ∷ 32 ∷ 114 ∷ 50 ∷ 10 ∷
-        99 ∷ 51 ∷ 32 ∷ 61 ∷ 32 ∷ 114 ∷ 49 ∷ 10 ∷
-        99 ∷ 52 ∷ 32 ∷ 61 ∷ 32 ∷ 114 ∷ 48 ∷ 10 ∷
-        99 ∷ 53 ∷ 32 ∷ 61 ∷ 32 ∷ 114 ∷ 48 ∷ 10 ∷
-        114 ∷ 56 ∷ 32 ∷ 61 ∷ 32 ∷ 110 ∷ 111 ∷ 116 ∷ 32 ∷ 114 ∷ 52 ∷ 10 ∷
-        114 ∷ 57 ∷ 32 ∷ 61 ∷ 32 ∷ 97 ∷ 110 ∷ 100 ∷ 32 ∷ 114 ∷ 50 ∷ 32 ∷ 114 ∷ 56 ∷ 10 ∷
-        114 ∷ 49 ∷ 48 ∷ 32 ∷ 61 ∷ 32 ∷ 111 ∷ 114 ∷ 32 ∷ 114 ∷ 51 ∷ 32 ∷ 114 ∷ 57 ∷ 10 ∷ []))
+    ∷ (
+      prints edgeSet,
+      granted (
+          99 ∷ 101 ∷ 108 ∷ 108 ∷ 115 ∷ 32 ∷ 54 ∷ 32 ∷ 114 ∷ 111 ∷ 119 ∷ 115 ∷ 32 ∷ 51 ∷ 10 ∷
+          99 ∷ 48 ∷ 32 ∷ 61 ∷ 32 ∷ 114 ∷ 50 ∷ 10 ∷
+          99 ∷ 49 ∷ 32 ∷ 61 ∷ 32 ∷ 114 ∷ 49 ∷ 48 ∷ 10 ∷
+          99 ∷ 50 ∷ 32 ∷ 61 ∷ 32 ∷ 114 ∷ 50 ∷ 10 ∷
+          99 ∷ 51 ∷ 32 ∷ 61 ∷ 32 ∷ 114 ∷ 49 ∷ 10 ∷
+          99 ∷ 52 ∷ 32 ∷ 61 ∷ 32 ∷ 114 ∷ 48 ∷ 10 ∷
+          99 ∷ 53 ∷ 32 ∷ 61 ∷ 32 ∷ 114 ∷ 48 ∷ 10 ∷
+          114 ∷ 56 ∷ 32 ∷ 61 ∷ 32 ∷ 110 ∷ 111 ∷ 116 ∷ 32 ∷ 114 ∷ 52 ∷ 10 ∷
+          114 ∷ 57 ∷ 32 ∷ 61 ∷ 32 ∷ 97 ∷ 110 ∷ 100 ∷ 32 ∷ 114 ∷ 50 ∷ 32 ∷ 114 ∷ 56 ∷ 10 ∷
+          114 ∷ 49 ∷ 48 ∷ 32 ∷ 61 ∷ 32 ∷ 111 ∷ 114 ∷ 32 ∷ 114 ∷ 51 ∷ 32 ∷ 114 ∷ 57 ∷ 10 ∷ []),
+    )
     ∷ []
 
 -- Every example of the table gives what the table says.

@@ -51,21 +51,21 @@ announced v b =
 abbrev pub readOperands : Announced → ℕ → (ℕ → Verdict (Read Exp)) → Verdict (Read Exp)
 readOperands (leaf x) p rec = granted (record { got = x; next = suc p })
 readOperands one p rec = do
-    x ← rec (suc p)
-    granted (record { got = neg (x .got); next = x .next })
+  x ← rec (suc p)
+  granted (record { got = neg (x .got); next = x .next })
 readOperands (two o) p rec = do
-    x ← rec (suc p)
-    y ← rec (x .next)
-    granted (record { got = bin o (x .got) (y .got); next = y .next })
+  x ← rec (suc p)
+  y ← rec (x .next)
+  granted (record { got = bin o (x .got) (y .got); next = y .next })
 readOperands bad p rec = refused 6 p
 
 -- R14, R54: the expression at p, which must end before `stop`; k is how deep operands may nest: stop - p suffices.
 unfoldable pub readExpr : ℕ → List ℕ → ℕ → ℕ → ℕ → Verdict (Read Exp)
 readExpr zero file v stop p = refused 6 stop
 readExpr (suc k) file v stop p = do
-    _ ← refuseIf (leb stop p) 6 stop
-    _ ← refuseIf (leb (length file) p) 1 (length file)
-    readOperands (announced v (getD file p 0)) p (readExpr k file v stop)
+  _ ← refuseIf (leb stop p) 6 stop
+  _ ← refuseIf (leb (length file) p) 1 (length file)
+  readOperands (announced v (getD file p 0)) p (readExpr k file v stop)
 
 -- R14: the bytes of an expression, in prefix order.
 unfoldable pub writeExpr : Exp → List ℕ

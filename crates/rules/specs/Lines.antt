@@ -5,7 +5,7 @@ use mathlib.Core.List.{List, [], _∷_, _++_, flatMap}
 use lib.ListN.{length, getD}
 use lib.Dec.{ltb}
 use Rattle.rules.specs.Verdict.{Verdict, granted, refused}
-use Rattle.rules.specs.Lists.{from}
+use Rattle.rules.specs.Lists.{from, orElse}
 use Rattle.rules.specs.Shape.{cells}
 use Rattle.rules.specs.Rows.{Row, leaf, inv, bin, rowAt}
 use Rattle.rules.specs.SetFile.{TransferSet, leaves}
@@ -13,7 +13,7 @@ use Rattle.rules.specs.SetFile.{TransferSet, leaves}
 -- R75: a number in decimal, without leading zeros; k digits are enough.
 unfoldable pub digits : ℕ → ℕ → List ℕ
 digits zero n = []
-digits (suc k) n = elim (ltb n 10) [ true ↦ (48 + n) ∷ [] | false ↦ digits k (n / 10) ++ ((48 + n % 10) ∷ []) ]
+digits (suc k) n = orElse (ltb n 10) ((48 + n) ∷ []) (λ u. digits k (n / 10) ++ ((48 + n % 10) ∷ []))
 
 -- R75: the numbers that are printed have at most 20 digits.
 abbrev pub decimal : ℕ → List ℕ

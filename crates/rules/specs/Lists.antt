@@ -26,10 +26,15 @@ unfoldable pub elem : ℕ → List ℕ → Bool
 elem k [] = false
 elem k (x ∷ xs) = eqb k x || elem k xs
 
+-- a where the test holds, else the rest, which is computed only then
+abbrev pub orElse : {A : Type 0} → Bool → A → (Unit {0} → A) → A
+orElse true a rest = a
+orElse false a rest = rest tt
+
 -- the first of the n numbers from i on that passes the test, or i + n where none does
 unfoldable pub seek : (ℕ → Bool) → ℕ → ℕ → ℕ
 seek f zero i = i
-seek f (suc n) i = elim (f i) [ true ↦ i | false ↦ seek f n (suc i) ]
+seek f (suc n) i = orElse (f i) i (λ u. seek f n (suc i))
 
 -- R51: refuses at the first of the numbers below n that passes the test.
 abbrev pub refuseFirst : (ℕ → Bool) → ℕ → ℕ → (ℕ → ℕ) → Verdict (Unit {0})

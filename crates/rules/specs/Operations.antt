@@ -26,16 +26,16 @@ storageBytes s = map bit s
 -- R3, R59: a lent storage must have C bytes, each 0 or 1.
 unfoldable pub checkStorage : ℕ → List ℕ → Verdict (List Bool)
 checkStorage C s = do
-    _ ← refuseIf (not (eqb (length s) C)) 14 (length s)
-    _ ← refuseFirst (λ c. ltb 1 (getD s c 0)) C 14 (λ c. c)
-    granted (map (eqb 1) s)
+  _ ← refuseIf (not (eqb (length s) C)) 14 (length s)
+  _ ← refuseFirst (λ c. ltb 1 (getD s c 0)) C 14 (λ c. c)
+  granted (map (eqb 1) s)
 
 -- R29: scans a program file on a storage within a budget.
 unfoldable pub scan : Edition → List ℕ → List ℕ → ℕ → Verdict Scanned
 scan e file storage budget = do
-    P ← readProgram e file
-    s ← checkStorage (cells (P .shape)) storage
-    scanProgram P budget s
+  P ← readProgram e file
+  s ← checkStorage (cells (P .shape)) storage
+  scanProgram P budget s
 
 -- R40: the set that heads over a table are, in its own numbering.
 unfoldable pub setOf : Shape → Heads → TransferSet
@@ -65,30 +65,30 @@ room rows = min rows mostRows
 -- R62: writes a set into an output of `out` bytes; `held` rows are in the table then.
 unfoldable pub writeInto : Edition → ℕ → ℕ → TransferSet → Verdict (List ℕ)
 writeInto e held out z = do
-    _ ← refuseIf (ltb out (length (writeSet e z))) 10 held
-    granted (writeSet e z)
+  _ ← refuseIf (ltb out (length (writeSet e z))) 10 held
+  granted (writeSet e z)
 
 -- R61, R62: a table that needed more rows than there are, then the output.
 unfoldable pub finish : Edition → Shape → ℕ → ℕ → Heads → Verdict (List ℕ)
 finish e sh rows out h = do
-    _ ← refuseIf (ltb (room rows) (length (h .tab))) 10 (room rows)
-    writeInto e (length (h .tab)) out (setOf sh h)
+  _ ← refuseIf (ltb (room rows) (length (h .tab))) 10 (room rows)
+  writeInto e (length (h .tab)) out (setOf sh h)
 
 -- R63: builds a program's set with so many rows, numbers and heads lent.
 unfoldable pub build : Edition → List ℕ → ℕ → ℕ → ℕ → ℕ → Verdict (List ℕ)
 build e file rows numbers heads out = do
-    P ← readProgram e file
-    _ ← refuseIf (ltb rows (leaves (P .shape))) 10 0
-    _ ← refuseIf (ltb numbers (room rows) || ltb heads (length (P .instrs) * cells (P .shape))) 10 0
-    finish e (P .shape) rows out (transfer P)
+  P ← readProgram e file
+  _ ← refuseIf (ltb rows (leaves (P .shape))) 10 0
+  _ ← refuseIf (ltb numbers (room rows) || ltb heads (length (P .instrs) * cells (P .shape))) 10 0
+  finish e (P .shape) rows out (transfer P)
 
 -- R65: evaluates a set file on a storage, with so many values lent.
 unfoldable pub evaluate : Edition → List ℕ → List ℕ → ℕ → Verdict (List Bool)
 evaluate e file storage lent = do
-    z ← readSet e file
-    s ← checkStorage (cells (z .shape)) storage
-    _ ← refuseIf (ltb lent (length (z .tab))) 10 0
-    granted (act (z .tab) (z .heads) s)
+  z ← readSet e file
+  s ← checkStorage (cells (z .shape)) storage
+  _ ← refuseIf (ltb lent (length (z .tab))) 10 0
+  granted (act (z .tab) (z .heads) s)
 
 -- R49: whether two shapes are the same.
 abbrev pub sameShape : Shape → Shape → Bool
@@ -98,12 +98,12 @@ sameShape a b =
 -- R64: composes two set files, with so many rows and numbers lent.
 unfoldable pub compose : Edition → List ℕ → List ℕ → ℕ → ℕ → ℕ → Verdict (List ℕ)
 compose e first second rows numbers out = do
-    X ← readSet e first
-    Y ← readSet e second
-    _ ← refuseIf (not (sameShape (X .shape) (Y .shape))) 12 0
-    _ ← refuseIf (ltb rows (length (X .tab))) 10 0
-    _ ← refuseIf (ltb numbers (length (X .tab) + (length (Y .tab) - leaves (X .shape)))) 10 0
-    finish e (X .shape) rows out (composed X Y)
+  X ← readSet e first
+  Y ← readSet e second
+  _ ← refuseIf (not (sameShape (X .shape) (Y .shape))) 12 0
+  _ ← refuseIf (ltb rows (length (X .tab))) 10 0
+  _ ← refuseIf (ltb numbers (length (X .tab) + (length (Y .tab) - leaves (X .shape)))) 10 0
+  finish e (X .shape) rows out (composed X Y)
 
 -- R49: which file a refusal of composing is about.
 pub data Blamed : Type 0 where
@@ -120,5 +120,5 @@ blamed e first second = blame (readSet e first) (readSet e second)
 -- R66: writes the unchanging set of a shape.
 unfoldable pub writeUnchanging : Edition → Shape → ℕ → Verdict (List ℕ)
 writeUnchanging e sh out = do
-    _ ← checkShape e sh
-    writeInto e (leaves sh) out (unchangingSet sh)
+  _ ← checkShape e sh
+  writeInto e (leaves sh) out (unchangingSet sh)

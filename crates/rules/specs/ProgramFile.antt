@@ -5,7 +5,7 @@ use mathlib.Core.List.{List, [], _∷_, _++_, map, flatMap}
 use lib.ListN.{length, getD}
 use lib.Dec.{leb, ltb, eqb}
 use Rattle.rules.specs.Verdict.{Verdict, granted, refused, _>>=_, refuseIf}
-use Rattle.rules.specs.Lists.{numberAt, bytesOf}
+use Rattle.rules.specs.Lists.{numberAt, bytesOf, orElse}
 use Rattle.rules.specs.Edition.{Edition, countAt, headerEnd, mostInstrs}
 use Rattle.rules.specs.Shape.{Shape, vars, readHeader, writeHeader}
 use Rattle.rules.specs.Expr.{Exp, Read, readExpr, writeExpr}
@@ -37,7 +37,7 @@ codes =
 -- R12: the form of a code.
 unfoldable pub formOf : List (ℕ × Form) → ℕ → Form
 formOf [] c = unknown
-formOf (x ∷ xs) c = elim (eqb (x .0) c) [ true ↦ x .1 | false ↦ formOf xs c ]
+formOf (x ∷ xs) c = orElse (eqb (x .0) c) (x .1) (λ u. formOf xs c)
 
 -- R15: a variable that an instruction may write: below V and no input.
 abbrev pub writable : Shape → ℕ → Bool
@@ -47,16 +47,16 @@ writable sh b = leb (sh .inputs) b && ltb b (vars sh)
 abbrev pub readOperand : Edition → List ℕ → Shape → ℕ → ℕ → ℕ → Form → Verdict (Read Instr)
 readOperand e file sh n i p (alone x) = granted (record { got = x; next = p })
 readOperand e file sh n i p (withExpr g) = do
-    x ← readExpr (e .mostExpr) file (vars sh) (p + e .mostExpr) p
-    granted (record { got = plain (g (x .got)); next = x .next })
+  x ← readExpr (e .mostExpr) file (vars sh) (p + e .mostExpr) p
+  granted (record { got = plain (g (x .got)); next = x .next })
 readOperand e file sh n i p (withVar g) = do
-    _ ← refuseIf (leb (length file) p) 1 (length file)
-    _ ← refuseIf (not (writable sh (getD file p 0))) 7 p
-    granted (record { got = plain (g (getD file p 0)); next = suc p })
+  _ ← refuseIf (leb (length file) p) 1 (length file)
+  _ ← refuseIf (not (writable sh (getD file p 0))) 7 p
+  granted (record { got = plain (g (getD file p 0)); next = suc p })
 readOperand e file sh n i p (withLabel g) = do
-    _ ← refuseIf (ltb (length file) (p + 2)) 1 (length file)
-    _ ← refuseIf (not (ltb i (numberAt 2 file p) && ltb (numberAt 2 file p) n)) 8 p
-    granted (record { got = g (numberAt 2 file p); next = p + 2 })
+  _ ← refuseIf (ltb (length file) (p + 2)) 1 (length file)
+  _ ← refuseIf (not (ltb i (numberAt 2 file p) && ltb (numberAt 2 file p) n)) 8 p
+  granted (record { got = g (numberAt 2 file p); next = p + 2 })
 readOperand e file sh n i p unknown = refused 5 (p - 1)
 
 -- R11: where the contents entry of instruction i stands, and where the first body of n begins.
@@ -66,17 +66,17 @@ entryAt e i = headerEnd e + 2 * i
 -- R52: the instruction i of n whose body must stand at p: its entry, its code, its operand.
 unfoldable pub readInstr : Edition → List ℕ → Shape → ℕ → ℕ → ℕ → Verdict (Read Instr)
 readInstr e file sh n i p = do
-    _ ← refuseIf (not (eqb (entryAt e n + numberAt 2 file (entryAt e i)) p)) 4 (entryAt e i)
-    _ ← refuseIf (leb (length file) p) 1 (length file)
-    readOperand e file sh n i (suc p) (formOf codes (getD file p 0))
+  _ ← refuseIf (not (eqb (entryAt e n + numberAt 2 file (entryAt e i)) p)) 4 (entryAt e i)
+  _ ← refuseIf (leb (length file) p) 1 (length file)
+  readOperand e file sh n i (suc p) (formOf codes (getD file p 0))
 
 -- R11, R52: the last k of n instructions, whose bodies stand one after another from p on.
 unfoldable pub readInstrs : Edition → List ℕ → Shape → ℕ → ℕ → ℕ → Verdict (Read (List Instr))
 readInstrs e file sh n zero p = granted (record { got = []; next = p })
 readInstrs e file sh n (suc k) p = do
-    x ← readInstr e file sh n (n - suc k) p
-    xs ← readInstrs e file sh n k (x .next)
-    granted (record { got = x .got ∷ xs .got; next = xs .next })
+  x ← readInstr e file sh n (n - suc k) p
+  xs ← readInstrs e file sh n k (x .next)
+  granted (record { got = x .got ∷ xs .got; next = xs .next })
 
 -- R17: whether an instruction is END.
 abbrev pub isEnd : Instr → Bool
@@ -90,14 +90,14 @@ isEnd END = true
 -- R52: reads a program file: header, count, contents, instruction by instruction, nothing after them, END last.
 unfoldable pub readProgram : Edition → List ℕ → Verdict Program
 readProgram e file = do
-    sh ← readHeader e (e .programMark) file
-    n ← granted (numberAt 2 file (countAt e))
-    _ ← refuseIf (not (leb 1 n && leb n mostInstrs)) 3 (countAt e)
-    _ ← refuseIf (ltb (length file) (entryAt e n)) 1 (length file)
-    xs ← readInstrs e file sh n n (entryAt e n)
-    _ ← refuseIf (ltb (xs .next) (length file)) 4 (xs .next)
-    _ ← refuseIf (not (isEnd (getD (xs .got) (n - 1) END))) 9 (entryAt e n + numberAt 2 file (entryAt e (n - 1)))
-    granted (record { shape = sh; instrs = xs .got })
+  sh ← readHeader e (e .programMark) file
+  n ← granted (numberAt 2 file (countAt e))
+  _ ← refuseIf (not (leb 1 n && leb n mostInstrs)) 3 (countAt e)
+  _ ← refuseIf (ltb (length file) (entryAt e n)) 1 (length file)
+  xs ← readInstrs e file sh n n (entryAt e n)
+  _ ← refuseIf (ltb (xs .next) (length file)) 4 (xs .next)
+  _ ← refuseIf (not (isEnd (getD (xs .got) (n - 1) END))) 9 (entryAt e n + numberAt 2 file (entryAt e (n - 1)))
+  granted (record { shape = sh; instrs = xs .got })
 
 -- R12: the bytes of an instruction's body.
 unfoldable pub bodyOf : Instr → List ℕ

@@ -49,9 +49,10 @@ rowIn file p = rowOf (getD file p 0) (numberAt 2 file (p + 1)) (numberAt 2 file 
 -- R45: the set of a shape and r operation rows that a file's bytes spell.
 unfoldable pub spelt : Edition → List ℕ → Shape → ℕ → TransferSet
 spelt e file sh r = record {
-    shape = sh;
-    tab = base (cells sh) ++ map (λ j. rowIn file (rowPlace e sh j)) (from 0 r);
-    heads = map (λ c. numberAt 2 file (headAt e c)) (from 0 (cells sh)) }
+  shape = sh;
+  tab = base (cells sh) ++ map (λ j. rowIn file (rowPlace e sh j)) (from 0 r);
+  heads = map (λ c. numberAt 2 file (headAt e c)) (from 0 (cells sh));
+}
 
 -- R47: whether all numbers of a list are below k.
 unfoldable pub allBelow : ℕ → List ℕ → Bool
@@ -74,18 +75,18 @@ named t x k = elem k (x ++ flatMap operands (drop (suc k) t))
 -- R47, R48, R58: heads, then rows in order, then the lowest row that nothing names.
 unfoldable pub checkRows : Edition → TransferSet → ℕ → Verdict (Unit {0})
 checkRows e z r = do
-    let sh = z .shape
-    _ ← refuseFirst (λ c. leb (leaves sh + r) (getD (z .heads) c 0)) (cells sh) 13 (headAt e)
-    _ ← refuseFirst (λ j. not (fits (z .tab) (leaves sh + j))) r 13 (rowPlace e sh)
-    refuseFirst (λ j. not (named (z .tab) (z .heads) (leaves sh + j))) r 13 (rowPlace e sh)
+  let sh = z .shape
+  _ ← refuseFirst (λ c. leb (leaves sh + r) (getD (z .heads) c 0)) (cells sh) 13 (headAt e)
+  _ ← refuseFirst (λ j. not (fits (z .tab) (leaves sh + j))) r 13 (rowPlace e sh)
+  refuseFirst (λ j. not (named (z .tab) (z .heads) (leaves sh + j))) r 13 (rowPlace e sh)
 
 -- R58: reads a set file: header, count, length, heads, rows, rows that nothing names.
 unfoldable pub readSet : Edition → List ℕ → Verdict TransferSet
 readSet e file = do
-    sh ← readHeader e (e .setMark) file
-    r ← granted (numberAt 2 file (countAt e))
-    _ ← refuseIf (ltb mostRows (leaves sh + r)) 3 (countAt e)
-    _ ← refuseIf (ltb (length file) (rowPlace e sh r)) 1 (length file)
-    _ ← refuseIf (ltb (rowPlace e sh r) (length file)) 4 (rowPlace e sh r)
-    _ ← checkRows e (spelt e file sh r) r
-    granted (spelt e file sh r)
+  sh ← readHeader e (e .setMark) file
+  r ← granted (numberAt 2 file (countAt e))
+  _ ← refuseIf (ltb mostRows (leaves sh + r)) 3 (countAt e)
+  _ ← refuseIf (ltb (length file) (rowPlace e sh r)) 1 (length file)
+  _ ← refuseIf (ltb (rowPlace e sh r) (length file)) 4 (rowPlace e sh r)
+  _ ← checkRows e (spelt e file sh r) r
+  granted (spelt e file sh r)

@@ -28,8 +28,8 @@ cells sh = vars sh + 1 + sh .depth
 -- R1, R53: the depth is 2 to 16, and the variables are 1 to the edition's most.
 abbrev pub checkShape : Edition → Shape → Verdict (Unit {0})
 checkShape e sh = do
-    _ ← refuseIf (not (leb 2 (sh .depth) && leb (sh .depth) 16)) 3 1
-    refuseIf (not (leb 1 (vars sh) && leb (vars sh) (e .mostVars))) 3 2
+  _ ← refuseIf (not (leb 2 (sh .depth) && leb (sh .depth) 16)) 3 1
+  refuseIf (not (leb 1 (vars sh) && leb (vars sh) (e .mostVars))) 3 2
 
 -- R9: the shape that a header gives.
 unfoldable pub shapeAt : Edition → List ℕ → Shape
@@ -40,10 +40,10 @@ shapeAt e file =
 -- R9, R53: reads a header that begins with the mark. Refuses a short file, another mark, a bad shape.
 unfoldable pub readHeader : Edition → ℕ → List ℕ → Verdict Shape
 readHeader e mark file = do
-    _ ← refuseIf (ltb (length file) (headerEnd e)) 1 (length file)
-    _ ← refuseIf (not (eqb (getD file 0 0) mark)) 2 0
-    _ ← checkShape e (shapeAt e file)
-    granted (shapeAt e file)
+  _ ← refuseIf (ltb (length file) (headerEnd e)) 1 (length file)
+  _ ← refuseIf (not (eqb (getD file 0 0) mark)) 2 0
+  _ ← checkShape e (shapeAt e file)
+  granted (shapeAt e file)
 
 -- R9: the header with a mark, a shape and a count.
 unfoldable pub writeHeader : Edition → ℕ → Shape → ℕ → List ℕ

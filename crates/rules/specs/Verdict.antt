@@ -3,7 +3,6 @@ use Prim.Native.Nat.{ℕ}
 use mathlib.Core.Bool.{Bool, true, false}
 
 infixl 10 _>>=_
-
 -- R50: what was asked for, or a refusal's number and place.
 pub data Verdict (A : Type 0) : Type 0 where
   granted : A → Verdict A

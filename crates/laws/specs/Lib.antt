@@ -1,0 +1,4 @@
+-- Theorems about the definitions of crate `rules`, under the names of its modules.
+pub mod Verdict
+pub mod Canonical
+pub mod Lists

@@ -1,0 +1,1 @@
+// Theorems about the definitions of crate rules: see specs/. There is no code here.
