@@ -2,3 +2,4 @@
 pub mod Verdict
 pub mod Canonical
 pub mod Lists
+pub mod Rows

@@ -35,22 +35,22 @@ needs t (suc k) x = needs t k (cond (elem k x) (operands (rowAt t k) ++ x) x)
 abbrev pub reaches : List Row → List ℕ → ℕ → Bool
 reaches t x k = elem k (needs t (length t) x)
 
--- R39: a row with its operands renumbered: a constant or cell c by x, the others by `new`.
-abbrev pub renumber : List ℕ → List ℕ → Row → Row
-renumber x new (leaf i) = leaf (getD (0 ∷ 1 ∷ x) i 0)
-renumber x new (inv a) = inv (getD new a 0)
-renumber x new (bin o a b) = bin o (getD new a 0) (getD new b 0)
-
 -- R39: a table that rows are carried to, and the new number of each row carried so far.
 pub record Carried : Type 0 where
   pub tab : List Row
   pub new : List ℕ
 
--- R39: carries one row over if it is wanted; one that is not gets no place.
+-- R39: carries one row over: a constant stays, cell c becomes x's head c, an operation is put with its operands renumbered.
+abbrev pub carryOne : (List Row → Row → Added) → List ℕ → Carried → Row → Added
+carryOne put x m (leaf i) = record { tab = m .tab; row = getD (0 ∷ 1 ∷ x) i 0 }
+carryOne put x m (inv a) = put (m .tab) (inv (getD (m .new) a 0))
+carryOne put x m (bin o a b) = put (m .tab) (bin o (getD (m .new) a 0) (getD (m .new) b 0))
+
+-- R39: carries a row over if it is reached; one that is not gets no place.
 abbrev pub carryRow : (List Row → Row → Added) → List ℕ → Carried → Row → Bool → Carried
 carryRow put x m r false = record { tab = m .tab; new = m .new ++ (0 ∷ []) }
 carryRow put x m r true =
-    let a = put (m .tab) (renumber x (m .new) r) in
+    let a = carryOne put x m r in
     record { tab = a .tab; new = m .new ++ (a .row ∷ []) }
 
 -- R39: carries the first k rows of u to t by `put`, those that y reaches, in rising number, with cell c replaced by x's head c.
@@ -66,11 +66,9 @@ moved m y = record { tab = m .tab; heads = map (λ h. getD (m .new) h 0) y }
 unfoldable pub after : List Row → List ℕ → List Row → List ℕ → Heads
 after t x u y = moved (carry add t x u y (length u)) y
 
--- R40: puts a row at the end, whatever stands in the table; constants and cells stand already.
+-- R40: puts a row at the end, whatever stands in the table.
 abbrev pub append : List Row → Row → Added
-append t (leaf i) = record { tab = t; row = i }
-append t (inv a) = record { tab = t ++ (inv a ∷ []); row = length t }
-append t (bin o a b) = record { tab = t ++ (bin o a b ∷ []); row = length t }
+append t r = record { tab = t ++ (r ∷ []); row = length t }
 
 -- R40: a set of C cells as its file has it: the rows that its heads reach, in order, renumbered.
 unfoldable pub squeeze : ℕ → List Row → List ℕ → Heads
