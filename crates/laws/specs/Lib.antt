@@ -3,3 +3,5 @@ pub mod Verdict
 pub mod Canonical
 pub mod Lists
 pub mod Rows
+pub mod Reach
+pub mod After

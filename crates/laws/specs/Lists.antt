@@ -1,7 +1,7 @@
 -- Laws of counting, searching and maps on lists.
 use Prim.Native.Nat.{ℕ, zero, suc, _+_, _≤_, _<_}
 use mathlib.Core.Path.{_≡_, refl, ap, ap₂, sym, _∙_}
-use mathlib.Core.Bool.{Bool, true, false, _||_}
+use mathlib.Core.Bool.{Bool, true, false, _||_, or-assoc, or-true}
 use mathlib.Core.List.{List, [], _∷_, _++_, map}
 use native.Mathlib.Omega.{arith}
 use native.Mathlib.Nat.{add-zero, add-suc, suc-add, zero-add}
@@ -30,6 +30,11 @@ module _ {A B : Type 0} where
   map-ext g h d [] e = refl
   map-ext g h d (x ∷ l) e = ap₂ {C = List B} _∷_ (e 0 (omega arith)) (map-ext g h d l (λ k p. e (suc k) (omega arith)))
 
+pub map-low : (g : ℕ → ℕ) (n : ℕ) → ((h : ℕ) → g h < n) → (l : List ℕ) (k : ℕ) → getD (map g l) k 0 < n
+map-low g n e [] k = omega (arith, e 0)
+map-low g n e (x ∷ l) zero = e x
+map-low g n e (x ∷ l) (suc k) = map-low g n e l k
+
 -- ---- seek
 
 -- Where a search among n numbers from i on comes to the end, no number passed the test.
@@ -55,26 +60,14 @@ seek-end f (suc n) i e =
 
 -- ---- elem
 
-pub elem-head : (k : ℕ) (l : List ℕ) → elem k (k ∷ l) ≡ true
+pub elem-append : (k : ℕ) (l m : List ℕ) → elem k (l ++ m) ≡ (elem k l || elem k m)
 unfolding elem
-elem-head k l = rw (eq-eqb k k refl)
+elem-append k [] m = refl
+elem-append k (x ∷ l) m = ap (λ t. eqb k x || t) (elem-append k l m) ∙ sym (or-assoc (eqb k x) (elem k l) (elem k m))
 
-pub elem-append-left : (k : ℕ) (l m : List ℕ) → elem k l ≡ true → elem k (l ++ m) ≡ true
+-- A number is in a list exactly where it stands at some place.
+pub elem-at : (l : List ℕ) (c d : ℕ) → c < length l → elem (getD l c d) l ≡ true
 unfolding elem
-elem-append-left k [] m e =
-    let z : _≡_ {A = ℕ} 0 1 = cc in
-    absurd (omega arith)
-elem-append-left k (x ∷ l) m e = go (eqb k x) e (elem-append-left k l m)
-  where
-    go : (t : Bool) → t || elem k l ≡ true → (elem k l ≡ true → elem k (l ++ m) ≡ true) → t || elem k (l ++ m) ≡ true
-    go true q rest = refl
-    go false q rest = rest q
-
-pub elem-append-right : (k : ℕ) (l m : List ℕ) → elem k m ≡ true → elem k (l ++ m) ≡ true
-unfolding elem
-elem-append-right k [] m e = e
-elem-append-right k (x ∷ l) m e = go (eqb k x) (elem-append-right k l m e)
-  where
-    go : (t : Bool) → elem k (l ++ m) ≡ true → t || elem k (l ++ m) ≡ true
-    go true rest = refl
-    go false rest = rest
+elem-at [] c d h = absurd (omega arith)
+elem-at (x ∷ l) zero d h = rw (eq-eqb x x refl)
+elem-at (x ∷ l) (suc c) d h = rw (elem-at l c d (omega arith)) (or-true (eqb (getD l c d) x))

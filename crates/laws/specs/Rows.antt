@@ -251,14 +251,14 @@ planBin-normal o a b p q h g =
     small′ false = omega arith
 
 module _ {C : ℕ} {t : List Row} (w : Canonical C t) where
-  zero-is : (s : List Bool) → value t s 0 ≡ false
+  pub zero-is : (s : List Bool) → value t s 0 ≡ false
   zero-is s = canonical-value w s 0 (omega (arith, w .long)) ∙ ap (meaning t s) (w .leaf-at 0 (omega arith))
 
-  one-is : (s : List Bool) → value t s 1 ≡ true
+  pub one-is : (s : List Bool) → value t s 1 ≡ true
   one-is s = canonical-value w s 1 (omega (arith, w .long)) ∙ ap (meaning t s) (w .leaf-at 1 (omega arith))
 
   -- A row of a canonical table that is an operation has its operands earlier.
-  op-earlier : (a : ℕ) (r : Row) → a < length t → rowAt t a ≡ r → Below a r
+  pub op-earlier : (a : ℕ) (r : Row) → a < length t → rowAt t a ≡ r → Below a r
   op-earlier a r h e =
       elim (decLt a (2 + C)) [ yes p ↦ rw (sym e ∙ w .leaf-at a p) tt | no p ↦ rw e at (w .earlier a (omega arith) h) ]
 

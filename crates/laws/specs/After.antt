@@ -1,0 +1,182 @@
+-- One set after another evaluates as first then second, over a canonical table; and the table only grows.
+use Prim.Native.Nat.{ℕ, zero, suc, _+_, _≤_, _<_}
+use mathlib.Core.Path.{_≡_, refl, sym, ap, _∙_}
+use mathlib.Core.Bool.{Bool, true, false, not, or-true}
+use mathlib.Core.List.{List, [], _∷_, _++_, map, map-map}
+use native.Mathlib.Omega.{arith}
+use native.Mathlib.Decide.{decLt}
+use lib.ListN.{length, getD, length-append, length-map, List·getD-append, List·getD-map, List·getD-eq-default}
+use lib.Seq.{getD-append-seam}
+use lib.Dec.{eqb}
+use borrow.Author.Tests.{eq-eqb}
+use Rattle.rules.specs.Lists.{elem}
+use Rattle.rules.specs.Expr.{op}
+use Rattle.rules.specs.Rows.{Row, leaf, inv, bin, rowAt, values, value, make, plan, Added, add}
+use Rattle.rules.specs.Sets.{Heads, act, operands, needs, reaches, Carried, carryOne, carryRow, carry, moved, after}
+use Rattle.laws.specs.Lists.{map-ext, map-low, elem-at}
+use Rattle.laws.specs.Canonical.{Below, Canonical}
+use Rattle.laws.specs.Rows.{meaning, canonical-value, Ext, ext-refl, ext-trans, ext-length, ext-value, Ready, zero-is, one-is, op-earlier, Sound, add-sound, add-extends}
+use Rattle.laws.specs.Reach.{needs-keeps, needs-closed}
+
+-- Heads of C cells stand in a canonical table; past the last cell `getD` gives row 0, which stands too.
+pub record Stands (C : ℕ) (h : Heads) : Type 0 where
+  pub canonical : Canonical C (h .tab)
+  pub count : length (h .heads) ≡ C
+  pub low : (c : ℕ) → getD (h .heads) c 0 < length (h .tab)
+
+-- They stand, and evaluating them is f.
+pub record Acts (C : ℕ) (h : Heads) (f : List Bool → List Bool) : Type 0 where
+  pub stands : Stands C h
+  pub val : (s : List Bool) → act (h .tab) (h .heads) s ≡ f s
+
+abbrev pub over : List Row → List ℕ → Heads
+over t x = record { tab = t; heads = x }
+
+-- Two ways to evaluate heads agree where they agree on every head.
+pub act-ext : (t u : List Row) (x : List ℕ) (s r : List Bool) → ((c : ℕ) → value t s (getD x c 0) ≡ value u r (getD x c 0)) → act t x s ≡ act u x r
+unfolding act
+act-ext t u x s r e = map-ext (value t s) (value u r) 0 x (λ c h. e c)
+
+-- Heads keep standing, and keep their values, when the table grows.
+pub stands-ext : {C : ℕ} {t u : List Row} → Canonical C u → Ext t u → (x : List ℕ) → Stands C (over t x) → Stands C (over u x)
+stands-ext w p x h = record { canonical = w; count = h .count; low = λ c. omega (arith, h .low c, ext-length p) }
+
+pub act-kept : {C : ℕ} {t u : List Row} → Ext t u → (x : List ℕ) → Stands C (over t x) → (s : List Bool) → act u x s ≡ act t x s
+act-kept {t = t} {u = u} p x h s = act-ext u t x s s (λ c. ext-value p s (getD x c 0) (h .low c))
+
+-- ---- carrying rows
+
+module _ (put : List Row → Row → Added) (extends : (t : List Row) (r : Row) → Ext t (put t r .tab)) where
+  carryOne-extends : (x : List ℕ) (m : Carried) (r : Row) → Ext (m .tab) (carryOne put x m r .tab)
+  carryOne-extends x m (leaf i) = ext-refl (m .tab)
+  carryOne-extends x m (inv a) = extends (m .tab) (inv (getD (m .new) a 0))
+  carryOne-extends x m (bin o a b) = extends (m .tab) (bin o (getD (m .new) a 0) (getD (m .new) b 0))
+
+  carryRow-extends : (x : List ℕ) (m : Carried) (r : Row) (b : Bool) → Ext (m .tab) (carryRow put x m r b .tab)
+  carryRow-extends x m r false = ext-refl (m .tab)
+  carryRow-extends x m r true = carryOne-extends x m r
+
+  -- Carrying only ever grows the table.
+  pub carry-extends : (t : List Row) (x : List ℕ) (u : List Row) (y : List ℕ) (k : ℕ) → Ext t (carry put t x u y k .tab)
+  unfolding carry
+  carry-extends t x u y zero = ext-refl t
+  carry-extends t x u y (suc k) = ext-trans (carry-extends t x u y k) (carryRow-extends x (carry put t x u y k) (rowAt u k) (reaches u y k))
+
+pub after-extends : (t : List Row) (x : List ℕ) (u : List Row) (y : List ℕ) → Ext t (after t x u y .tab)
+unfolding after
+after-extends t x u y = carry-extends add add-extends t x u y (length u)
+
+-- A number put at the end of a list of numbers, and those before it.
+pub snoc-last : (l : List ℕ) (a k : ℕ) → length l ≡ k → getD (l ++ (a ∷ [])) k 0 ≡ a
+snoc-last l a k e = rw (← e) (getD-append-seam l a [] 0)
+
+pub snoc-old : (l : List ℕ) (a k : ℕ) → length l ≡ k → (i : ℕ) → i < k → getD (l ++ (a ∷ [])) i 0 ≡ getD l i 0
+snoc-old l a k e i h = List·getD-append l (a ∷ []) 0 i (omega arith)
+
+pub snoc-low : (l : List ℕ) (a n m : ℕ) → ((i : ℕ) → getD l i 0 < m) → m ≤ n → a < n → (i : ℕ) → getD (l ++ (a ∷ [])) i 0 < n
+snoc-low [] a n m h g p zero = p
+snoc-low [] a n m h g p (suc i) = omega arith
+snoc-low (b ∷ l) a n m h g p zero = omega (arith, h 0)
+snoc-low (b ∷ l) a n m h g p (suc i) = snoc-low l a n m (λ i. h (suc i)) g p i
+
+-- The leaf's row of a canonical table is the leaf of its own number.
+pub leaf-own : {C : ℕ} {t : List Row} → Canonical C t → (k i : ℕ) → k < length t → rowAt t k ≡ leaf i → (i ≡ k) × (k < 2 + C)
+leaf-own {C} {t} w k i h e = elim (decLt k (2 + C)) [ yes p ↦ (let q : leaf i ≡ leaf k = sym e ∙ w .leaf-at k p in (cc, p)) | no p ↦ absurd (never (omega arith)) ]
+  where
+    never : 2 + C ≤ k → ⊥
+    never p =
+        let q : plan t (leaf i) ≡ make (leaf i) = rw e at (w .normal k p h) in
+        let z : _≡_ {A = ℕ} 0 1 = cc in
+        omega arith
+
+-- After k rows: the table is canonical, every row carried has a number in it, and those that are reached keep their values.
+pub record Stage (C : ℕ) (t : List Row) (x : List ℕ) (u : List Row) (y : List ℕ) (k : ℕ) (m : Carried) : Type 0 where
+  pub canonical : Canonical C (m .tab)
+  pub size : length (m .new) ≡ k
+  pub low : (i : ℕ) → getD (m .new) i 0 < length (m .tab)
+  pub val : (i : ℕ) → i < k → reaches u y i ≡ true → (s : List Bool) → value (m .tab) s (getD (m .new) i 0) ≡ value u (act t x s) i
+
+module _ {C : ℕ} (t : List Row) (x : List ℕ) (u : List Row) (y : List ℕ) (X : Stands C (over t x)) (w : Canonical C u) where
+  below : (i : ℕ) → i < length u → Below i (rowAt u i)
+  below i h = op-earlier w i (rowAt u i) h refl
+
+  closed : (k a : ℕ) (r : Row) → k < length u → rowAt u k ≡ r → reaches u y k ≡ true → elem a (operands r) ≡ true → reaches u y a ≡ true
+  closed k a r h e q p = needs-closed u below (length u) k a y (omega arith) h q (rw e p)
+
+  -- The head that replaces leaf i has the leaf's value on the storage that x leaves.
+  head-value : (i : ℕ) → i < 2 + C → (s : List Bool) → value t s (getD (0 ∷ 1 ∷ x) i 0) ≡ getD (false ∷ true ∷ act t x s) i false
+  unfolding act
+  head-value zero h s = zero-is (X .canonical) s
+  head-value (suc zero) h s = one-is (X .canonical) s
+  head-value (suc (suc c)) h s =
+      let z : value t s 0 ≡ false = zero-is (X .canonical) s in
+      rw (← z) (sym (List·getD-map (value t s) x c 0))
+
+  one-sound : (k : ℕ) (m : Carried) → k < length u → Stage C t x u y k m → Ext t (m .tab) → (r : Row) → rowAt u k ≡ r → reaches u y k ≡ true
+      → Sound C (carryOne add x m r) (λ s. value u (act t x s) k)
+  unfolding value elem
+  one-sound k m h g p (leaf i) e q =
+      let own = leaf-own w k i h e in
+      let low : getD (0 ∷ 1 ∷ x) i 0 < length t = head-low i in
+      record {
+      canonical = g .canonical;
+      low = omega (arith, low, ext-length p);
+      val = λ s. ext-value p s (getD (0 ∷ 1 ∷ x) i 0) low ∙ head-value i (omega (arith, own .0, own .1)) s ∙ sym (canonical-value w (act t x s) k h ∙ ap (meaning u (act t x s)) e) }
+    where
+      head-low : (i : ℕ) → getD (0 ∷ 1 ∷ x) i 0 < length t
+      head-low zero = omega (arith, X .canonical .long)
+      head-low (suc zero) = omega (arith, X .canonical .long)
+      head-low (suc (suc c)) = X .low c
+  one-sound k m h g p (inv a) e q =
+      let a<k : a < k = op-earlier w k (inv a) h e in
+      let qa : reaches u y a ≡ true = closed k a (inv a) h e q (rw (eq-eqb a a refl)) in
+      let z = add-sound (g .canonical) (inv (getD (m .new) a 0)) (g .low a) in
+      record { canonical = z .canonical; low = z .low; val = λ s. cc (z .val s, g .val a a<k qa s, canonical-value w (act t x s) k h, e) }
+  one-sound k m h g p (bin o a b) e q =
+      let lt : (a < k) × (b < k) = op-earlier w k (bin o a b) h e in
+      let qa : reaches u y a ≡ true = closed k a (bin o a b) h e q (rw (eq-eqb a a refl)) in
+      let qb : reaches u y b ≡ true = closed k b (bin o a b) h e q (rw (eq-eqb b b refl) (or-true (eqb b a))) in
+      let z = add-sound (g .canonical) (bin o (getD (m .new) a 0) (getD (m .new) b 0)) (g .low a, g .low b) in
+      record { canonical = z .canonical; low = z .low; val = λ s. cc (z .val s, g .val a (lt .0) qa s, g .val b (lt .1) qb s, canonical-value w (act t x s) k h, e) }
+
+  -- One turn keeps the stage.
+  stage-row : (k : ℕ) (m : Carried) → k < length u → Stage C t x u y k m → Ext t (m .tab) → (b : Bool) → reaches u y k ≡ b → Stage C t x u y (suc k) (carryRow add x m (rowAt u k) b)
+  stage-row k m h g p false q = record {
+      canonical = g .canonical;
+      size = length-append (m .new) (0 ∷ []) ∙ omega (arith, g .size);
+      low = snoc-low (m .new) 0 (length (m .tab)) (length (m .tab)) (g .low) (omega arith) (omega (arith, g .canonical .long));
+      val = λ i j z s. elim (decLt i k) [ yes f ↦ rw (snoc-old (m .new) 0 k (g .size) i f) (g .val i f z s) | no f ↦ (let n : i ≡ k = omega arith in cc) ] }
+  stage-row k m h g p true q =
+      let a = carryOne add x m (rowAt u k) in
+      let z = one-sound k m h g p (rowAt u k) refl q in
+      let more : Ext (m .tab) (a .tab) = carryOne-extends add add-extends x m (rowAt u k) in
+      record {
+      canonical = z .canonical;
+      size = length-append (m .new) (a .row ∷ []) ∙ omega (arith, g .size);
+      low = snoc-low (m .new) (a .row) (length (a .tab)) (length (m .tab)) (g .low) (ext-length more) (z .low);
+      val = λ i j f s. elim (decLt i k) [
+        yes l ↦ rw (snoc-old (m .new) (a .row) k (g .size) i l) (ext-value more s (getD (m .new) i 0) (g .low i) ∙ g .val i l f s)
+        | no l ↦ (let n : i ≡ k = omega arith in rw (n, snoc-last (m .new) (a .row) k (g .size)) (z .val s)) ] }
+
+  stages : (k : ℕ) → k ≤ length u → Stage C t x u y k (carry add t x u y k)
+  unfolding carry
+  stages zero h = record { canonical = X .canonical; size = refl; low = λ i. omega (arith, X .canonical .long); val = λ i j. absurd (omega arith) }
+  stages (suc k) h =
+      stage-row k (carry add t x u y k) (omega arith) (stages k (omega arith)) (carry-extends add add-extends t x u y k) (reaches u y k) refl
+
+-- The law of composition: a set after another stands, and evaluates as first then second.
+pub after-acts : {C : ℕ} (t : List Row) (x : List ℕ) (u : List Row) (y : List ℕ) → Stands C (over t x) → Stands C (over u y)
+    → Acts C (after t x u y) (λ s. act u y (act t x s))
+unfolding after act
+after-acts {C} t x u y X Y =
+    let m = carry add t x u y (length u) in
+    let g = stages t x u y X (Y .canonical) (length u) (omega arith) in
+    let new : ℕ → ℕ = λ h. getD (m .new) h 0 in
+    record {
+    stands = record {
+      canonical = g .canonical;
+      count = length-map y new ∙ Y .count;
+      low = map-low new (length (m .tab)) (g .low) y };
+    val = λ s. map-map (value (m .tab) s) new y
+      ∙ map-ext (λ h. value (m .tab) s (new h)) (value u (act t x s)) 0 y
+      (λ c h. g .val (getD y c 0) (Y .low c) (needs-keeps u (length u) (getD y c 0) y (elem-at y c 0 h)) s) }
