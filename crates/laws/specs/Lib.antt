@@ -5,3 +5,4 @@ pub mod Lists
 pub mod Rows
 pub mod Reach
 pub mod After
+pub mod Choice

@@ -2,7 +2,7 @@
 use Prim.Native.Nat.{ℕ, zero, suc, _+_, _*_}
 use mathlib.Core.Path.{_≡_, refl}
 use mathlib.Core.Bool.{Bool, true, false}
-use mathlib.Core.List.{List, [], _∷_, _++_, map, flatMap}
+use mathlib.Core.List.{List, [], _∷_, _++_, map, flatMap, zipWith, zip}
 use lib.ListN.{length, take, set}
 use Rattle.rules.specs.Verdict.{Verdict, granted, refused, _>>=_}
 use Rattle.rules.specs.Lists.{numberAt, bytesOf, from, elem, seek}
@@ -14,8 +14,8 @@ use Rattle.rules.specs.Instr.{Instr, plain, JP, JPC, JS, JSC, END}
 use Rattle.rules.specs.ProgramFile.{Program, formOf, readInstr, readInstrs, readProgram, bodyOf, entries, writeProgram}
 use Rattle.rules.specs.Machine.{perform, scanFrom}
 use Rattle.rules.specs.Rows.{base, values, value, planBin, find, insert}
-use Rattle.rules.specs.Sets.{act, unchanging, needs, carry, after, squeeze, choose, choice}
-use Rattle.rules.specs.Build.{addExp, addExps, own, turn, turns, transfer}
+use Rattle.rules.specs.Sets.{act, unchanging, needs, carry, after, squeeze, fourRows, choose, each, choice}
+use Rattle.rules.specs.Build.{addExp, own, turn, turns, transfer}
 use Rattle.rules.specs.SetFile.{writeSet, rowOf, spelt, allBelow, fits, named, checkRows, readSet}
 use Rattle.rules.specs.Operations.{storageBytes, checkStorage, scan, setOf, writeInto, finish, build, evaluate, compose, programSet, writeUnchanging}
 use Rattle.rules.specs.Lines.{digits, line, setText}
@@ -179,5 +179,5 @@ bench =
 
 -- Every example of the table gives what the table says.
 pub bench-holds : map (λ x. answer (x .0)) bench ≡ map (λ x. x .1) bench
-unfolding answer numberAt bytesOf from elem seek shapeAt readHeader writeHeader eval announced readExpr writeExpr effect effects formOf readInstr readInstrs readProgram bodyOf entries writeProgram perform scanFrom base values value planBin find insert act unchanging needs carry after squeeze choose choice addExp addExps own turn turns transfer writeSet rowOf spelt allBelow fits named checkRows readSet checkStorage scan setOf writeInto finish build evaluate compose writeUnchanging digits line setText flatMap
+unfolding answer numberAt bytesOf from elem seek shapeAt readHeader writeHeader eval announced readExpr writeExpr effect effects formOf readInstr readInstrs readProgram bodyOf entries writeProgram perform scanFrom base values value planBin find insert act unchanging needs carry after squeeze fourRows choose each choice zipWith zip addExp own turn turns transfer writeSet rowOf spelt allBelow fits named checkRows readSet checkStorage scan setOf writeInto finish build evaluate compose writeUnchanging digits line setText flatMap
 bench-holds = refl

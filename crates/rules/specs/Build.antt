@@ -8,7 +8,7 @@ use Rattle.rules.specs.Expr.{Exp, con, cell, neg, bin}
 use Rattle.rules.specs.Instr.{Plain, INIT, effects, Instr, plain, JP, JPC, JS, JSC, END}
 use Rattle.rules.specs.ProgramFile.{Program}
 use Rattle.rules.specs.Rows.{Row, inv, base, rowOfCell, Added, add}
-use Rattle.rules.specs.Sets.{Heads, after, choice}
+use Rattle.rules.specs.Sets.{Heads, after, each, choice}
 
 -- R42: adds the rows of an expression: left operand, right operand, then the outer row.
 unfoldable pub addExp : List Row → Exp → Added
@@ -22,17 +22,9 @@ addExp t (bin o x y) =
     let b = addExp (a .tab) y in
     add (b .tab) (Rattle.rules.specs.Rows.bin o (a .row) (b .row))
 
--- R42: adds the rows of a list of expressions, one for each cell, in order.
-unfoldable pub addExps : List Row → List Exp → Heads
-addExps t [] = record { tab = t; heads = [] }
-addExps t (x ∷ xs) =
-    let a = addExp t x in
-    let rest = addExps (a .tab) xs in
-    record { tab = rest .tab; heads = a .row ∷ rest .heads }
-
--- R42: an instruction's own set.
+-- R42: an instruction's own set: the rows of each cell's expression, cells in order.
 unfoldable pub own : List Row → Shape → Plain → Heads
-own t sh p = addExps t (effects sh p)
+own t sh p = each addExp t (effects sh p)
 
 -- R43: what is built once T(n-1) to T(i) are: the one table, and the heads of T(i), T(i+1), ..
 pub record Built : Type 0 where

@@ -1,7 +1,7 @@
 -- Sets over a table: evaluating, reaching, one after another, choosing, and the set in its own numbering.
 use Prim.Native.Nat.{ℕ, zero, suc, _+_}
 use mathlib.Core.Bool.{Bool, true, false, cond}
-use mathlib.Core.List.{List, [], _∷_, _++_, map}
+use mathlib.Core.List.{List, [], _∷_, _++_, map, zip}
 use lib.ListN.{length, getD}
 use lib.Dec.{eqb}
 use Rattle.rules.specs.Lists.{from, elem}
@@ -74,20 +74,26 @@ append t r = record { tab = t ++ (r ∷ []); row = length t }
 unfoldable pub squeeze : ℕ → List Row → List ℕ → Heads
 squeeze C t x = moved (carry append (base C) (unchanging C) t x (length t)) x
 
--- R41: one cell's choice by row f of the heads x and y: x if f is 1, else y.
-unfoldable pub choose : List Row → ℕ → ℕ → ℕ → Added
-choose t f x y =
-    cond (eqb x y) (record { tab = t; row = x })
-    (let n = add t (inv f) in
+-- R36: the heads that adding gives for a list, one after another, in one table.
+unfoldable pub each : {A : Type 0} → (List Row → A → Added) → List Row → List A → Heads
+each put t [] = record { tab = t; heads = [] }
+each put t (x ∷ xs) =
+    let a = put t x in
+    let rest = each put (a .tab) xs in
+    record { tab = rest .tab; heads = a .row ∷ rest .heads }
+
+-- R41: x if row f is 1, else y: NOT f, AND f x, AND (NOT f) y, and OR of both.
+unfoldable pub fourRows : List Row → ℕ → ℕ → ℕ → Added
+fourRows t f x y =
+    let n = add t (inv f) in
     let a = add (n .tab) (bin true f x) in
     let b = add (a .tab) (bin true (n .row) y) in
-    add (b .tab) (bin false (a .row) (b .row)))
+    add (b .tab) (bin false (a .row) (b .row))
+
+-- R41: one cell's choice by row f of the heads x and y: equal heads are kept.
+unfoldable pub choose : List Row → ℕ → ℕ → ℕ → Added
+choose t f x y = cond (eqb x y) (record { tab = t; row = x }) (fourRows t f x y)
 
 -- R41: choice by row f of the sets x and y, cells in order.
 unfoldable pub choice : List Row → ℕ → List ℕ → List ℕ → Heads
-choice t f [] ys = record { tab = t; heads = [] }
-choice t f (x ∷ xs) [] = record { tab = t; heads = [] }
-choice t f (x ∷ xs) (y ∷ ys) =
-    let h = choose t f x y in
-    let rest = choice (h .tab) f xs ys in
-    record { tab = rest .tab; heads = h .row ∷ rest .heads }
+choice t f x y = each (λ u p. choose u f (p .0) (p .1)) t (zip x y)
