@@ -6,3 +6,4 @@ pub mod Rows
 pub mod Reach
 pub mod After
 pub mod Choice
+pub mod Build

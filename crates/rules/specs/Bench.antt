@@ -9,7 +9,7 @@ use Rattle.rules.specs.Lists.{numberAt, bytesOf, from, elem, seek}
 use Rattle.rules.specs.Edition.{old}
 use Rattle.rules.specs.Shape.{Shape, shapeAt, readHeader, writeHeader}
 use Rattle.rules.specs.Expr.{Exp, con, cell, neg, bin, eval, announced, readExpr, writeExpr}
-use Rattle.rules.specs.Instr.{Plain, INIT, NOT, TAND, TOR, PUSH, POP, DROP, DUP, FSWP, ESWP, LOAD, AND, OR, EPUSH, STORE, SET, RES, REDGE, FEDGE, effect, effects}
+use Rattle.rules.specs.Instr.{Plain, INIT, NOT, TAND, TOR, PUSH, POP, DROP, DUP, FSWP, ESWP, LOAD, AND, OR, EPUSH, STORE, SET, RES, REDGE, FEDGE, put, stack, pushed, popped, effect, effects}
 use Rattle.rules.specs.Instr.{Instr, plain, JP, JPC, JS, JSC, END}
 use Rattle.rules.specs.ProgramFile.{Program, formOf, readInstr, readInstrs, readProgram, bodyOf, entries, writeProgram}
 use Rattle.rules.specs.Machine.{perform, scanFrom}
@@ -179,5 +179,5 @@ bench =
 
 -- Every example of the table gives what the table says.
 pub bench-holds : map (λ x. answer (x .0)) bench ≡ map (λ x. x .1) bench
-unfolding answer numberAt bytesOf from elem seek shapeAt readHeader writeHeader eval announced readExpr writeExpr effect effects formOf readInstr readInstrs readProgram bodyOf entries writeProgram perform scanFrom base values value planBin find insert act unchanging needs carry after squeeze fourRows choose each choice zipWith zip addExp own turn turns transfer writeSet rowOf spelt allBelow fits named checkRows readSet checkStorage scan setOf writeInto finish build evaluate compose writeUnchanging digits line setText flatMap
+unfolding answer numberAt bytesOf from elem seek shapeAt readHeader writeHeader eval announced readExpr writeExpr put stack pushed popped effect effects formOf readInstr readInstrs readProgram bodyOf entries writeProgram perform scanFrom base values value planBin find insert act unchanging needs carry after squeeze fourRows choose each choice zipWith zip addExp own turn turns transfer writeSet rowOf spelt allBelow fits named checkRows readSet checkStorage scan setOf writeInto finish build evaluate compose writeUnchanging digits line setText flatMap
 bench-holds = refl

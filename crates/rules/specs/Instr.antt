@@ -20,7 +20,7 @@ pub data Instr : Type 0 where
   END : Instr
 
 -- R20: a cell's expression where b gets x and g tells the others.
-abbrev pub put : ℕ → Exp → (ℕ → Exp) → ℕ → Exp
+unfoldable pub put : ℕ → Exp → (ℕ → Exp) → ℕ → Exp
 put b x g c = cond (eqb c b) x (g c)
 
 -- R20: every cell kept.
@@ -28,7 +28,7 @@ abbrev pub keep : ℕ → Exp
 keep c = cell c
 
 -- R20: e_k gets g k, and the cells before the stack are kept.
-abbrev pub stack : Shape → (ℕ → Exp) → ℕ → Exp
+unfoldable pub stack : Shape → (ℕ → Exp) → ℕ → Exp
 stack sh g c = cond (ltb (flag sh) c) (g (c - flag sh)) (cell c)
 
 -- R2: f and e_k as expressions.
@@ -39,11 +39,11 @@ abbrev pub e : Shape → ℕ → Exp
 e sh k = cell (flag sh + k)
 
 -- R23: x comes on top of the stack, and e_d is lost.
-abbrev pub pushed : Shape → Exp → ℕ → Exp
+unfoldable pub pushed : Shape → Exp → ℕ → Exp
 pushed sh x = stack sh (λ k. cond (eqb k 1) x (e sh (k - 1)))
 
 -- R23: e1 is taken off the stack, and e_d becomes 0.
-abbrev pub popped : Shape → ℕ → Exp
+unfoldable pub popped : Shape → ℕ → Exp
 popped sh = stack sh (λ k. cond (eqb k (sh .depth)) (con false) (e sh (suc k)))
 
 -- R20 to R23: what each instruction gives each cell, all from the storage before it.

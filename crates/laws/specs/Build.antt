@@ -1,0 +1,152 @@
+-- An instruction's own set evaluates to the instruction's effect, and building only grows the table.
+use Prim.Native.Nat.{ℕ, zero, suc, _+_, _-_, _≤_, _<_}
+use mathlib.Core.Path.{_≡_, refl, sym, ap, _∙_}
+use mathlib.Core.Bool.{Bool, true, false, not, cond}
+use mathlib.Core.List.{List, [], _∷_, map}
+use native.Mathlib.Omega.{arith}
+use lib.ListN.{length, getD, length-map}
+use lib.Dec.{eqb, ltb}
+use borrow.Author.Tests.{ltb-true, ltb-false, eqb-false}
+use Rattle.rules.specs.Lists.{from}
+use Rattle.rules.specs.Shape.{Shape, vars, flag, cells}
+use Rattle.rules.specs.Expr.{Exp, con, cell, neg, bin, op, eval}
+use Rattle.rules.specs.Instr.{Plain, INIT, NOT, TAND, TOR, PUSH, POP, DROP, DUP, FSWP, ESWP, LOAD, AND, OR, EPUSH, STORE, SET, RES, REDGE, FEDGE}
+use Rattle.rules.specs.Instr.{Instr, plain, JP, JPC, JS, JSC, END, put, keep, stack, e, pushed, popped, effect, effects}
+use Rattle.rules.specs.Machine.{perform}
+use Rattle.rules.specs.Rows.{Row, leaf, inv, rowOfCell, rowAt, values, value, Added, add}
+use Rattle.rules.specs.Sets.{Heads, each, after}
+use Rattle.rules.specs.Build.{addExp, own, Built, setAt, turnHeads, turn, turns}
+use Rattle.laws.specs.Lists.{length-from}
+use Rattle.laws.specs.Canonical.{Canonical, Over, Names}
+use Rattle.laws.specs.Rows.{meaning, canonical-value, Ext, ext-refl, ext-trans, ext-length, ext-value, zero-is, one-is, Sound, add-sound, add-extends}
+use Rattle.laws.specs.After.{Stands, Acts, over, after-extends}
+use Rattle.laws.specs.Choice.{All, Good, each-extends, each-count, each-owed, owed-acts, choice-extends}
+
+-- ---- expressions
+
+pub addExp-extends : (t : List Row) (x : Exp) → Ext t (addExp t x .tab)
+unfolding addExp
+addExp-extends t (con b) = ext-refl t
+addExp-extends t (cell c) = ext-refl t
+addExp-extends t (neg x) = ext-trans (addExp-extends t x) (add-extends (addExp t x .tab) (inv (addExp t x .row)))
+addExp-extends t (bin o x y) =
+    let a = addExp t x in
+    let b = addExp (a .tab) y in
+    ext-trans (addExp-extends t x) (ext-trans (addExp-extends (a .tab) y) (add-extends (b .tab) (Rattle.rules.specs.Rows.bin o (a .row) (b .row))))
+
+-- The row of a cell has the cell's value.
+pub cell-value : {C : ℕ} {t : List Row} → Canonical C t → (s : List Bool) (c : ℕ) → c < C → value t s (rowOfCell c) ≡ getD s c false
+cell-value {t = t} w s c h = canonical-value w s (rowOfCell c) (omega (arith, w .long)) ∙ ap (meaning t s) (w .leaf-at (rowOfCell c) (omega arith))
+
+-- The rows of an expression have its value.
+pub addExp-sound : {C : ℕ} {t : List Row} → Canonical C t → (x : Exp) → Over C x → Sound C (addExp t x) (λ s. eval s x)
+unfolding addExp eval value
+addExp-sound w (con true) h = record { canonical = w; low = omega (arith, w .long); val = one-is w }
+addExp-sound w (con false) h = record { canonical = w; low = omega (arith, w .long); val = zero-is w }
+addExp-sound w (cell c) h = record { canonical = w; low = omega (arith, w .long); val = λ s. cell-value w s c h }
+addExp-sound {t = t} w (neg x) h =
+    let a = addExp-sound w x h in
+    let n = add-sound (a .canonical) (inv (addExp t x .row)) (a .low) in
+    record { canonical = n .canonical; low = n .low; val = λ s. n .val s ∙ ap not (a .val s) }
+addExp-sound {t = t} w (bin o x y) h =
+    let p = addExp t x in
+    let a = addExp-sound w x (h .0) in
+    let q = addExp (p .tab) y in
+    let b = addExp-sound (a .canonical) y (h .1) in
+    let more = addExp-extends (p .tab) y in
+    let n = add-sound (b .canonical) (Rattle.rules.specs.Rows.bin o (p .row) (q .row)) (omega (arith, a .low, ext-length more), b .low) in
+    record { canonical = n .canonical; low = n .low; val = λ s. cc (n .val s, a .val s, b .val s, ext-value more s (p .row) (a .low)) }
+
+-- ---- the table of effects names only cells
+
+over-more : (v k : ℕ) (x : Exp) → v ≤ k → Over v x → Over k x
+over-more v k (con b) h o = tt
+over-more v k (cell c) h o = omega arith
+over-more v k (neg x) h o = over-more v k x h o
+over-more v k (bin p x y) h o = (over-more v k x h (o .0), over-more v k y h (o .1))
+
+put-over : (k b : ℕ) (x : Exp) (g : ℕ → Exp) (c : ℕ) → Over k x → Over k (g c) → Over k (put b x g c)
+unfolding put
+put-over k b x g c h p = go (eqb c b)
+  where
+    go : (q : Bool) → Over k (cond q x (g c))
+    go true = h
+    go false = p
+
+stack-over : (sh : Shape) (g : ℕ → Exp) (c : ℕ) → c < cells sh → ((k : ℕ) → k ≤ sh .depth → Over (cells sh) (g k)) → Over (cells sh) (stack sh g c)
+unfolding stack
+stack-over sh g c h p = go (ltb (flag sh) c) refl
+  where
+    go : (q : Bool) → ltb (flag sh) c ≡ q → Over (cells sh) (cond q (g (c - flag sh)) (cell c))
+    go true e = p (c - flag sh) (omega (arith, ltb-true (flag sh) c e))
+    go false e = h
+
+cond-over : (k : ℕ) (b : Bool) (x y : Exp) → Over k x → (b ≡ false → Over k y) → Over k (cond b x y)
+cond-over k true x y h p = h
+cond-over k false x y h p = p refl
+
+pushed-over : (sh : Shape) (x : Exp) (c : ℕ) → c < cells sh → Over (cells sh) x → Over (cells sh) (pushed sh x c)
+unfolding pushed
+pushed-over sh x c h o = stack-over sh _ c h (λ k p. cond-over (cells sh) (eqb k 1) x (e sh (k - 1)) o (λ n. omega arith))
+
+popped-over : (sh : Shape) (c : ℕ) → c < cells sh → Over (cells sh) (popped sh c)
+unfolding popped
+popped-over sh c h = stack-over sh _ c h (λ k p. cond-over (cells sh) (eqb k (sh .depth)) (con false) (e sh (suc k)) tt (λ q. let n : k ≡ sh .depth → ⊥ = eqb-false k (sh .depth) q in omega arith))
+
+-- Every cell's expression names only cells.
+effect-over : (sh : Shape) → 2 ≤ sh .depth → (p : Plain) → Names (vars sh) p → (c : ℕ) → c < cells sh → Over (cells sh) (effect sh p c)
+unfolding effect
+effect-over sh d INIT n c h = put-over (cells sh) (flag sh) (con true) _ c tt (stack-over sh _ c h (λ k p. tt))
+effect-over sh d NOT n c h = put-over (cells sh) (flag sh) _ keep c (omega arith) h
+effect-over sh d TAND n c h = put-over (cells sh) (flag sh) _ keep c (omega arith, omega arith) h
+effect-over sh d TOR n c h = put-over (cells sh) (flag sh) _ keep c (omega arith, omega arith) h
+effect-over sh d PUSH n c h = pushed-over sh _ c h (omega arith)
+effect-over sh d POP n c h = put-over (cells sh) (flag sh) _ (popped sh) c (omega arith) (popped-over sh c h)
+effect-over sh d DROP n c h = popped-over sh c h
+effect-over sh d DUP n c h = pushed-over sh _ c h (omega arith)
+effect-over sh d FSWP n c h = put-over (cells sh) (flag sh) _ _ c (omega arith) (put-over (cells sh) (flag sh + 1) _ keep c (omega arith) h)
+effect-over sh d ESWP n c h = put-over (cells sh) (flag sh + 1) _ _ c (omega arith) (put-over (cells sh) (flag sh + 2) _ keep c (omega arith) h)
+effect-over sh d (LOAD x) n c h = put-over (cells sh) (flag sh) x keep c (over-more (vars sh) (cells sh) x (omega arith) n) h
+effect-over sh d (AND x) n c h = put-over (cells sh) (flag sh) _ keep c (omega arith, over-more (vars sh) (cells sh) x (omega arith) n) h
+effect-over sh d (OR x) n c h = put-over (cells sh) (flag sh) _ keep c (omega arith, over-more (vars sh) (cells sh) x (omega arith) n) h
+effect-over sh d (EPUSH x) n c h = pushed-over sh x c h (over-more (vars sh) (cells sh) x (omega arith) n)
+effect-over sh d (STORE b) n c h = put-over (cells sh) b _ keep c (omega arith) h
+effect-over sh d (SET b) n c h = put-over (cells sh) b _ keep c (omega arith, omega arith) h
+effect-over sh d (RES b) n c h = put-over (cells sh) b _ keep c (omega arith, omega arith) h
+effect-over sh d (REDGE b) n c h = put-over (cells sh) (flag sh) _ _ c (omega arith, omega arith) (put-over (cells sh) b _ keep c (omega arith) h)
+effect-over sh d (FEDGE b) n c h = put-over (cells sh) (flag sh) _ _ c (omega arith, omega arith) (put-over (cells sh) b _ keep c (omega arith) h)
+
+all-map-from : {A : Type 0} (P : A → Type 0) (g : ℕ → A) (i n : ℕ) → ((c : ℕ) → c < i + n → P (g c)) → All P (map g (from i n))
+unfolding from
+all-map-from P g i zero h = tt
+all-map-from P g i (suc n) h = (h i (omega arith), all-map-from P g (suc i) n (λ c p. h c (omega arith)))
+
+-- ---- an instruction's own set
+
+pub own-extends : (t : List Row) (sh : Shape) (p : Plain) → Ext t (own t sh p .tab)
+unfolding own
+own-extends t sh p = each-extends addExp addExp-extends t (effects sh p)
+
+-- An instruction's own set evaluates to what the instruction does.
+pub own-acts : (t : List Row) (sh : Shape) → 2 ≤ sh .depth → Canonical (cells sh) t → (p : Plain) → Names (vars sh) p → Acts (cells sh) (own t sh p) (perform sh p)
+unfolding own effects perform
+own-acts t sh d w p n =
+    let xs = map (effect sh p) (from 0 (cells sh)) in
+    owed-acts (each-owed addExp addExp-extends t eval xs good t (ext-refl t) w) (each-count addExp addExp-extends t xs ∙ length-map (from 0 (cells sh)) (effect sh p) ∙ length-from 0 (cells sh))
+  where
+    good : All (Good (cells sh) addExp t eval) (map (effect sh p) (from 0 (cells sh)))
+    good = all-map-from (Good (cells sh) addExp t eval) (effect sh p) 0 (cells sh) (λ c h u q v. addExp-sound v (effect sh p c) (effect-over sh d p n c (omega arith)))
+
+-- ---- tables only grow
+
+pub turnHeads-extends : (sh : Shape) (i : ℕ) (x : Instr) (b : Built) → Ext (b .tab) (turnHeads sh i x b .tab)
+turnHeads-extends sh i (plain p) b =
+    let o = own (b .tab) sh p in
+    ext-trans (own-extends (b .tab) sh p) (after-extends (o .tab) (o .heads) (o .tab) (setAt b (suc i) (suc i)))
+turnHeads-extends sh i (JP l) b = ext-refl (b .tab)
+turnHeads-extends sh i (JPC l) b = choice-extends (b .tab) (rowOfCell (flag sh)) (setAt b (suc i) l) (setAt b (suc i) (suc i))
+turnHeads-extends sh i (JS l) b = after-extends (b .tab) (setAt b (suc i) l) (b .tab) (setAt b (suc i) (suc i))
+turnHeads-extends sh i (JSC l) b =
+    let a = after (b .tab) (setAt b (suc i) l) (b .tab) (setAt b (suc i) (suc i)) in
+    ext-trans (after-extends (b .tab) (setAt b (suc i) l) (b .tab) (setAt b (suc i) (suc i))) (choice-extends (a .tab) (rowOfCell (flag sh)) (a .heads) (setAt b (suc i) (suc i)))
+turnHeads-extends sh i END b = own-extends (b .tab) sh INIT
