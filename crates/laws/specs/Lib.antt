@@ -7,3 +7,4 @@ pub mod Reach
 pub mod After
 pub mod Choice
 pub mod Build
+pub mod Transfer
