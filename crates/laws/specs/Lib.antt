@@ -7,4 +7,7 @@ pub mod Reach
 pub mod After
 pub mod Choice
 pub mod Build
+pub mod Machine
+pub mod ProgramFile
 pub mod Transfer
+pub mod Squeeze

@@ -228,7 +228,7 @@ op-comm : (o x y : Bool) → op o x y ≡ op o y x
 op-comm true x y = and-comm x y
 op-comm false x y = or-comm x y
 
-no-constant : (o : Bool) (a : ℕ) → (a ≡ absorbing o → ⊥) → (a ≡ neutral o → ⊥) → 2 ≤ a
+pub no-constant : (o : Bool) (a : ℕ) → (a ≡ absorbing o → ⊥) → (a ≡ neutral o → ⊥) → 2 ≤ a
 no-constant true a p q = omega arith
 no-constant false a p q = omega arith
 

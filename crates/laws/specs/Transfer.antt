@@ -17,14 +17,10 @@ use Rattle.rules.specs.Sets.{Heads, act, after, choice}
 use Rattle.rules.specs.Build.{own, Built, setAt, turnHeads, turn, turns, transfer}
 use Rattle.laws.specs.Canonical.{Canonical, Fine, WellFormed}
 use Rattle.laws.specs.Rows.{Ext, ext-refl, ext-trans, base-canonical}
+use Rattle.laws.specs.Machine.{run-add}
 use Rattle.laws.specs.After.{Stands, Acts, over, stands-ext, act-kept, after-acts, after-extends}
 use Rattle.laws.specs.Choice.{choice-acts}
 use Rattle.laws.specs.Build.{cell-value, own-acts, own-extends, turnHeads-extends}
-
-run-add : (P : Program) (a b : ℕ) (z : State) → run P (a + b) z ≡ run P b (run P a z)
-unfolding run
-run-add P zero b z = rw zero-add
-run-add P (suc a) b z = rw suc-add (run-add P a b (step P z))
 
 -- From instruction l and storage s the machine comes back with s′, whatever the return list, in fewer than 2^(n-l) steps.
 pub record Does (P : Program) (l : ℕ) (s s′ : List Bool) : Type 0 where
