@@ -1,14 +1,12 @@
 -- One set after another evaluates as first then second, over a canonical table; and the table only grows.
 use Prim.Native.Nat.{ℕ, zero, suc, _+_, _≤_, _<_}
 use mathlib.Core.Path.{_≡_, refl, sym, ap, _∙_}
-use mathlib.Core.Bool.{Bool, true, false, not, or-true}
+use mathlib.Core.Bool.{Bool, true, false, not}
 use mathlib.Core.List.{List, [], _∷_, _++_, map, map-map}
 use native.Mathlib.Omega.{arith}
 use native.Mathlib.Decide.{decLt}
 use lib.ListN.{length, getD, length-append, length-map, List·getD-append, List·getD-map, List·getD-eq-default}
 use lib.Seq.{getD-append-seam}
-use lib.Dec.{eqb}
-use borrow.Author.Tests.{eq-eqb}
 use Rattle.rules.specs.Lists.{elem}
 use Rattle.rules.specs.Expr.{op}
 use Rattle.rules.specs.Rows.{Row, leaf, inv, bin, rowAt, values, value, make, plan, Added, add}
@@ -16,7 +14,7 @@ use Rattle.rules.specs.Sets.{Heads, act, operands, needs, reaches, Carried, car
 use Rattle.laws.specs.Lists.{map-ext, map-low, elem-at}
 use Rattle.laws.specs.Canonical.{Below, Canonical}
 use Rattle.laws.specs.Rows.{meaning, canonical-value, Ext, ext-refl, ext-trans, ext-length, ext-value, Ready, zero-is, one-is, op-earlier, Sound, add-sound, add-extends}
-use Rattle.laws.specs.Reach.{needs-keeps, needs-closed}
+use Rattle.laws.specs.Reach.{needs-keeps, Operands, reaches-operands}
 
 -- Heads of C cells stand in a canonical table; past the last cell `getD` gives row 0, which stands too.
 pub record Stands (C : ℕ) (h : Heads) : Type 0 where
@@ -97,11 +95,8 @@ pub record Stage (C : ℕ) (t : List Row) (x : List ℕ) (u : List Row) (y : Lis
   pub val : (i : ℕ) → i < k → reaches u y i ≡ true → (s : List Bool) → value (m .tab) s (getD (m .new) i 0) ≡ value u (act t x s) i
 
 module _ {C : ℕ} (t : List Row) (x : List ℕ) (u : List Row) (y : List ℕ) (X : Stands C (over t x)) (w : Canonical C u) where
-  below : (i : ℕ) → i < length u → Below i (rowAt u i)
-  below i h = op-earlier w i (rowAt u i) h refl
-
-  closed : (k a : ℕ) (r : Row) → k < length u → rowAt u k ≡ r → reaches u y k ≡ true → elem a (operands r) ≡ true → reaches u y a ≡ true
-  closed k a r h e q p = needs-closed u below (length u) k a y (omega arith) h q (rw e p)
+  closed : (k : ℕ) (r : Row) → k < length u → rowAt u k ≡ r → reaches u y k ≡ true → Operands (λ a. reaches u y a ≡ true) r
+  closed k r = reaches-operands u (λ i h. op-earlier w i (rowAt u i) h refl) y k r
 
   -- The head that replaces leaf i has the leaf's value on the storage that x leaves.
   head-value : (i : ℕ) → i < 2 + C → (s : List Bool) → value t s (getD (0 ∷ 1 ∷ x) i 0) ≡ getD (false ∷ true ∷ act t x s) i false
@@ -114,7 +109,7 @@ module _ {C : ℕ} (t : List Row) (x : List ℕ) (u : List Row) (y : List ℕ) (
 
   one-sound : (k : ℕ) (m : Carried) → k < length u → Stage C t x u y k m → Ext t (m .tab) → (r : Row) → rowAt u k ≡ r → reaches u y k ≡ true
       → Sound C (carryOne add x m r) (λ s. value u (act t x s) k)
-  unfolding value elem
+  unfolding value
   one-sound k m h g p (leaf i) e q =
       let own = leaf-own w k i h e in
       let low : getD (0 ∷ 1 ∷ x) i 0 < length t = head-low i in
@@ -129,15 +124,13 @@ module _ {C : ℕ} (t : List Row) (x : List ℕ) (u : List Row) (y : List ℕ) (
       head-low (suc (suc c)) = X .low c
   one-sound k m h g p (inv a) e q =
       let a<k : a < k = op-earlier w k (inv a) h e in
-      let qa : reaches u y a ≡ true = closed k a (inv a) h e q (rw (eq-eqb a a refl)) in
       let z = add-sound (g .canonical) (inv (getD (m .new) a 0)) (g .low a) in
-      record { canonical = z .canonical; low = z .low; val = λ s. cc (z .val s, g .val a a<k qa s, canonical-value w (act t x s) k h, e) }
+      record { canonical = z .canonical; low = z .low; val = λ s. cc (z .val s, g .val a a<k (closed k (inv a) h e q) s, canonical-value w (act t x s) k h, e) }
   one-sound k m h g p (bin o a b) e q =
       let lt : (a < k) × (b < k) = op-earlier w k (bin o a b) h e in
-      let qa : reaches u y a ≡ true = closed k a (bin o a b) h e q (rw (eq-eqb a a refl)) in
-      let qb : reaches u y b ≡ true = closed k b (bin o a b) h e q (rw (eq-eqb b b refl) (or-true (eqb b a))) in
+      let qs = closed k (bin o a b) h e q in
       let z = add-sound (g .canonical) (bin o (getD (m .new) a 0) (getD (m .new) b 0)) (g .low a, g .low b) in
-      record { canonical = z .canonical; low = z .low; val = λ s. cc (z .val s, g .val a (lt .0) qa s, g .val b (lt .1) qb s, canonical-value w (act t x s) k h, e) }
+      record { canonical = z .canonical; low = z .low; val = λ s. cc (z .val s, g .val a (lt .0) (qs .0) s, g .val b (lt .1) (qs .1) s, canonical-value w (act t x s) k h, e) }
 
   -- One turn keeps the stage.
   stage-row : (k : ℕ) (m : Carried) → k < length u → Stage C t x u y k m → Ext t (m .tab) → (b : Bool) → reaches u y k ≡ b → Stage C t x u y (suc k) (carryRow add x m (rowAt u k) b)

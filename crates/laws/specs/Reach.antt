@@ -8,7 +8,7 @@ use native.Mathlib.Omega.{arith}
 use native.Mathlib.Decide.{decLt}
 use lib.ListN.{length, getD}
 use lib.Dec.{eqb}
-use borrow.Author.Tests.{ne-eqb}
+use borrow.Author.Tests.{eq-eqb, ne-eqb}
 use Rattle.rules.specs.Lists.{elem}
 use Rattle.rules.specs.Rows.{Row, leaf, inv, bin, rowAt}
 use Rattle.rules.specs.Sets.{operands, needs, reaches}
@@ -51,7 +51,7 @@ module _ (t : List Row) (b : (i : ℕ) → i < length t → Below i (rowAt t i))
       go false = refl
 
   -- The operands of a needed row are needed.
-  pub needs-closed : (k i a : ℕ) (x : List ℕ) → k ≤ length t → i < k → elem i (needs t k x) ≡ true → elem a (operands (rowAt t i)) ≡ true → elem a (needs t k x) ≡ true
+  needs-closed : (k i a : ℕ) (x : List ℕ) → k ≤ length t → i < k → elem i (needs t k x) ≡ true → elem a (operands (rowAt t i)) ≡ true → elem a (needs t k x) ≡ true
   unfolding needs
   needs-closed zero i a x h g e q = absurd (omega arith)
   needs-closed (suc k) i a x h g e q =
@@ -64,6 +64,22 @@ module _ (t : List Row) (b : (i : ℕ) → i < length t → Below i (rowAt t i))
           cc
       top : i ≡ k → elem a (needs t k (more t k x)) ≡ true
       top z = needs-keeps t k a (more t k x) (put (elem k x) refl (sym (needs-high k k (more t k x) (omega arith) (omega arith)) ∙ rw z at e) z)
+
+-- Every operand of a row has the property.
+abbrev pub Operands : (ℕ → Type 0) → Row → Type 0
+Operands Q (leaf i) = Unit {0}
+Operands Q (inv a) = Q a
+Operands Q (bin o a b) = Q a × Q b
+
+-- The operands of a reached row are reached.
+pub reaches-operands : (t : List Row) → ((i : ℕ) → i < length t → Below i (rowAt t i)) → (x : List ℕ) (k : ℕ) (r : Row) → k < length t → rowAt t k ≡ r
+    → reaches t x k ≡ true → Operands (λ a. reaches t x a ≡ true) r
+unfolding elem
+reaches-operands t b x k (leaf i) h e q = tt
+reaches-operands t b x k (inv a) h e q = needs-closed t b (length t) k a x (omega arith) h q (rw (e, eq-eqb a a refl))
+reaches-operands t b x k (bin o a c) h e q =
+    (needs-closed t b (length t) k a x (omega arith) h q (rw (e, eq-eqb a a refl)),
+    needs-closed t b (length t) k c x (omega arith) h q (rw (e, eq-eqb c c refl) (or-true (eqb c a))))
 
 -- A needed number is one of those asked for, or an operand of a needed row.
 pub record NamedBy (t : List Row) (k j : ℕ) (x : List ℕ) : Type 0 where
