@@ -11,3 +11,4 @@ pub mod Machine
 pub mod ProgramFile
 pub mod Transfer
 pub mod Squeeze
+pub mod Named

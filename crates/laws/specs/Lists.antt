@@ -30,6 +30,10 @@ module _ {A B : Type 0} where
   map-ext g h d [] e = refl
   map-ext g h d (x ∷ l) e = ap₂ {C = List B} _∷_ (e 0 (omega arith)) (map-ext g h d l (λ k p. e (suc k) (omega arith)))
 
+pub map-id : {A : Type 0} (l : List A) → map (λ x. x) l ≡ l
+map-id [] = refl
+map-id {A} (x ∷ l) = ap {B = List A} (λ m. x ∷ m) (map-id l)
+
 pub map-low : (g : ℕ → ℕ) (n : ℕ) → ((h : ℕ) → g h < n) → (l : List ℕ) (k : ℕ) → getD (map g l) k 0 < n
 map-low g n e [] k = omega (arith, e 0)
 map-low g n e (x ∷ l) zero = e x

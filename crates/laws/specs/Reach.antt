@@ -16,7 +16,7 @@ use Rattle.laws.specs.Lists.{elem-append}
 use Rattle.laws.specs.Canonical.{Below}
 
 -- Numbers from k on are no operands of a row whose operands are below k.
-operands-low : (k j : ℕ) (r : Row) → Below k r → k ≤ j → elem j (operands r) ≡ false
+pub operands-low : (k j : ℕ) (r : Row) → Below k r → k ≤ j → elem j (operands r) ≡ false
 unfolding elem
 operands-low k j (leaf i) h g = refl
 operands-low k j (inv a) h g = rw (ne-eqb j a (omega arith))
@@ -51,7 +51,7 @@ module _ (t : List Row) (b : (i : ℕ) → i < length t → Below i (rowAt t i))
       go false = refl
 
   -- The operands of a needed row are needed.
-  needs-closed : (k i a : ℕ) (x : List ℕ) → k ≤ length t → i < k → elem i (needs t k x) ≡ true → elem a (operands (rowAt t i)) ≡ true → elem a (needs t k x) ≡ true
+  pub needs-closed : (k i a : ℕ) (x : List ℕ) → k ≤ length t → i < k → elem i (needs t k x) ≡ true → elem a (operands (rowAt t i)) ≡ true → elem a (needs t k x) ≡ true
   unfolding needs
   needs-closed zero i a x h g e q = absurd (omega arith)
   needs-closed (suc k) i a x h g e q =

@@ -7,17 +7,18 @@ use mathlib.Core.List.{List, [], _∷_, _++_, map, flatMap}
 use mathlib.Core.Logic.{_⊎_, inl, inr}
 use native.Mathlib.Omega.{arith}
 use native.Mathlib.Decide.{decLt}
-use lib.ListN.{length, getD, take, drop, length-append, List·getD-append}
-use lib.Seq.{getD-append-seam}
+use lib.ListN.{length, getD, take, drop, length-append, length-map, List·getD-append, List·getD-map, List·getD-eq-default}
+use lib.Seq.{getD-append-seam, ext-getD}
 use lib.Dec.{eqb}
 use borrow.Author.Tests.{eqb-true, eqb-false, eq-eqb}
 use Rattle.rules.specs.Lists.{from, elem}
-use Rattle.rules.specs.Rows.{Row, leaf, inv, bin, base, rowAt, value, Plan, have, make, planNot, absorbing, neutral, planBin, plan, find, insert, Added, settle, add}
+use Rattle.rules.specs.Rows.{Row, leaf, inv, bin, base, rowOfCell, rowAt, value, Plan, have, make, planNot, absorbing, neutral, planBin, plan, find, insert, Added, settle, add}
 use Rattle.rules.specs.Sets.{Heads, act, unchanging, operands, needs, reaches, Carried, carryOne, carryRow, carry, moved, after, append, squeeze}
 use Rattle.laws.specs.Lists.{length-from, getD-from, elem-append, elem-at}
 use Rattle.laws.specs.Canonical.{Below, Canonical}
-use Rattle.laws.specs.Rows.{Ext, ext-refl, ext-trans, ext-length, ext-row, Ready, below-more, op-earlier, no-constant, planBin-normal, Inserts, stood, fresh, inserts, base-at, length-base, base-canonical}
+use Rattle.laws.specs.Rows.{Ext, ext-refl, ext-trans, ext-length, ext-row, Ready, below-more, op-earlier, zero-is, no-constant, planBin-normal, Inserts, stood, fresh, inserts, base-at, length-base, base-canonical}
 use Rattle.laws.specs.Reach.{needs-keeps, needs-origin, NamedBy, Operands, reaches-operands}
+use Rattle.laws.specs.Build.{cell-value}
 use Rattle.laws.specs.After.{Stands, Acts, over, carry-extends, snoc-last, snoc-old, after-acts}
 
 -- ---- what a plan to make the very row tells
@@ -72,12 +73,12 @@ canonical-ready {C} {t} w k h g = go (rowAt t k) (w .earlier k h g) (w .normal k
 -- ---- renumbering
 
 -- A row with its operands renumbered.
-abbrev ren : List ℕ → Row → Row
+abbrev pub ren : List ℕ → Row → Row
 ren new (leaf i) = leaf i
 ren new (inv a) = inv (getD new a 0)
 ren new (bin o a b) = bin o (getD new a 0) (getD new b 0)
 
-carry-op : (put : List Row → Row → Added) (x : List ℕ) (m : Carried) (k : ℕ) (r : Row) → Ready k r → carryOne put x m r ≡ put (m .tab) (ren (m .new) r)
+pub carry-op : (put : List Row → Row → Added) (x : List ℕ) (m : Carried) (k : ℕ) (r : Row) → Ready k r → carryOne put x m r ≡ put (m .tab) (ren (m .new) r)
 carry-op put x m k (leaf i) h = absurd h
 carry-op put x m k (inv a) h = refl
 carry-op put x m k (bin o a b) h = refl
@@ -90,31 +91,31 @@ ren-kept new a k (bin o b c) e h = ap₂ {C = Row} (bin o) (snoc-old new a k e b
 append-extends : (t : List Row) (r : Row) → Ext t (append t r .tab)
 append-extends t r = record { more = r ∷ []; is = refl }
 
-unchanging-at : (C i : ℕ) → i < 2 + C → getD (0 ∷ 1 ∷ unchanging C) i 0 ≡ i
+pub unchanging-at : (C i : ℕ) → i < 2 + C → getD (0 ∷ 1 ∷ unchanging C) i 0 ≡ i
 unfolding unchanging
 unchanging-at C zero h = refl
 unchanging-at C (suc zero) h = refl
 unchanging-at C (suc (suc i)) h = getD-from 2 C i 0 (omega arith) ∙ omega arith
 
 module _ {C : ℕ} (t : List Row) (x : List ℕ) (w : Canonical C t) where
-  abbrev R : ℕ → Bool
+  abbrev pub R : ℕ → Bool
   R i = reaches t x i
 
   -- Row i got the number a in the table u: a leaf its own, an operation one past the leaves, where it stands renumbered.
-  record Placed (i a : ℕ) (u : List Row) (new : List ℕ) : Type 0 where
-    leaves : i < 2 + C → a ≡ i
-    high : 2 + C ≤ i → 2 + C ≤ a
-    low : a < length u
-    row : 2 + C ≤ i → rowAt u a ≡ ren new (rowAt t i)
+  pub record Placed (i a : ℕ) (u : List Row) (new : List ℕ) : Type 0 where
+    pub leaves : i < 2 + C → a ≡ i
+    pub high : 2 + C ≤ i → 2 + C ≤ a
+    pub low : a < length u
+    pub row : 2 + C ≤ i → rowAt u a ≡ ren new (rowAt t i)
 
   -- After k rows: those that are reached are placed, in rising order, and they fill the table.
-  record Packed (k : ℕ) (m : Carried) : Type 0 where
-    size : length (m .new) ≡ k
-    grown : Ext (base C) (m .tab)
-    placed : (i : ℕ) → i < k → R i ≡ true → Placed i (getD (m .new) i 0) (m .tab) (m .new)
-    rising : (i j : ℕ) → i < j → j < k → R i ≡ true → R j ≡ true → getD (m .new) i 0 < getD (m .new) j 0
-    onto : (p : ℕ) → 2 + C ≤ p → p < length (m .tab) → (i : ℕ) × (i < k) × (2 + C ≤ i) × (R i ≡ true) × (getD (m .new) i 0 ≡ p)
-    few : length (m .tab) ≤ 2 + C + (k - (2 + C))
+  pub record Packed (k : ℕ) (m : Carried) : Type 0 where
+    pub size : length (m .new) ≡ k
+    pub grown : Ext (base C) (m .tab)
+    pub placed : (i : ℕ) → i < k → R i ≡ true → Placed i (getD (m .new) i 0) (m .tab) (m .new)
+    pub rising : (i j : ℕ) → i < j → j < k → R i ≡ true → R j ≡ true → getD (m .new) i 0 < getD (m .new) j 0
+    pub onto : (p : ℕ) → 2 + C ≤ p → p < length (m .tab) → (i : ℕ) × (i < k) × (2 + C ≤ i) × (R i ≡ true) × (getD (m .new) i 0 ≡ p)
+    pub few : length (m .tab) ≤ 2 + C + (k - (2 + C))
 
   below : (i : ℕ) → i < length t → Below i (rowAt t i)
   below i h = op-earlier w i (rowAt t i) h refl
@@ -174,7 +175,7 @@ module _ {C : ℕ} (t : List Row) (x : List ℕ) (w : Canonical C t) where
           (λ r. record { leaves = λ c. absurd (omega arith); high = λ c. tall; low = omega arith; row = λ c. getD-append-seam (m .tab) _ [] (leaf 0) })
           (λ r i l f. g .placed i l f .low) (λ j a b. (p, q, omega arith)) (omega (arith, g .few))
 
-  packed : (k : ℕ) → k ≤ length t → Packed k (carry append (base C) (unchanging C) t x k)
+  pub packed : (k : ℕ) → k ≤ length t → Packed k (carry append (base C) (unchanging C) t x k)
   unfolding carry
   packed zero h = record {
       size = refl;
@@ -291,3 +292,49 @@ module _ {C : ℕ} (t : List Row) (x : List ℕ) (w : Canonical C t) where
       go : (b : Bool) → R k ≡ b → carryRow add (unchanging C) m (rowAt t k) b ≡ carryRow append (unchanging C) m (rowAt t k) b
       go false q = refl
       go true q = ap (λ (a : Added). record { tab = a .tab; new = m .new ++ (a .row ∷ []) }) (one q)
+
+-- ---- the unchanging set
+
+pub unchanging-stands : (C : ℕ) → Stands C (over (base C) (unchanging C))
+unfolding unchanging
+unchanging-stands C = record {
+    canonical = base-canonical C;
+    count = length-from 2 C;
+    low = λ c. elim (decLt c C) [
+      yes h ↦ omega (arith, getD-from 2 C c 0 h, length-base C)
+      | no h ↦ (let p : length (from 2 C) ≤ c = omega (arith, length-from 2 C) in omega (arith, List·getD-eq-default (from 2 C) 0 p, length-base C)) ] }
+
+-- The unchanging set changes nothing.
+pub unchanging-acts : (C : ℕ) (s : List Bool) → length s ≡ C → act (base C) (unchanging C) s ≡ s
+unfolding act unchanging
+unchanging-acts C s e = ext-getD false (map (value (base C) s) (from 2 C)) s (length-map (from 2 C) (value (base C) s) ∙ length-from 2 C ∙ sym e) at
+  where
+    w : Canonical C (base C)
+    w = base-canonical C
+    at : (c : ℕ) → c < length (map (value (base C) s) (from 2 C)) → getD (map (value (base C) s) (from 2 C)) c false ≡ getD s c false
+    at c h =
+        let p : c < C = omega (arith, length-map (from 2 C) (value (base C) s), length-from 2 C) in
+        let z : value (base C) s 0 ≡ false = zero-is w s in
+        let m : getD (map (value (base C) s) (from 2 C)) c (value (base C) s 0) ≡ value (base C) s (getD (from 2 C) c 0) = List·getD-map (value (base C) s) (from 2 C) c 0 in
+        let n : getD (from 2 C) c 0 ≡ rowOfCell c = getD-from 2 C c 0 p ∙ omega arith in
+        cc (z, m, n, cell-value w s c p)
+
+-- ---- what squeezing keeps
+
+module _ {C : ℕ} {t : List Row} {x : List ℕ} (X : Stands C (over t x)) where
+  -- Squeezing a set is writing it after the unchanging one.
+  pub squeeze-after : squeeze C t x ≡ after (base C) (unchanging C) t x
+  unfolding squeeze after
+  squeeze-after = ap (λ m. moved m x) (sym (carry-same t x (X .canonical) (length t) (omega arith)))
+
+  pub squeeze-stands : Stands C (squeeze C t x)
+  squeeze-stands = rw squeeze-after (after-acts (base C) (unchanging C) t x (unchanging-stands C) X .stands)
+
+  -- A squeezed set has the same values on every storage of C cells.
+  pub squeeze-acts : (s : List Bool) → length s ≡ C → act (squeeze C t x .tab) (squeeze C t x .heads) s ≡ act t x s
+  squeeze-acts s e = rw squeeze-after (after-acts (base C) (unchanging C) t x (unchanging-stands C) X .val s ∙ ap (act t x) (unchanging-acts C s e))
+
+  -- A squeezed set has no more rows.
+  pub squeeze-few : length (squeeze C t x .tab) ≤ length t
+  unfolding squeeze
+  squeeze-few = omega (arith, packed t x (X .canonical) (length t) (omega arith) .few, X .canonical .long)
