@@ -1,19 +1,17 @@
 -- One set after another evaluates as first then second, over a canonical table; and the table only grows.
 use Prim.Native.Nat.{ℕ, zero, suc, _+_, _≤_, _<_}
 use mathlib.Core.Path.{_≡_, refl, sym, ap, _∙_}
-use mathlib.Core.Bool.{Bool, true, false, not}
-use mathlib.Core.List.{List, [], _∷_, _++_, map, map-map}
+use mathlib.Core.Bool.{Bool, true, false}
+use mathlib.Core.List.{List, [], _∷_, _++_, map-map}
 use native.Mathlib.Omega.{arith}
 use native.Mathlib.Decide.{decLt}
-use lib.ListN.{length, getD, length-append, length-map, List·getD-append, List·getD-map, List·getD-eq-default}
+use lib.ListN.{length, getD, length-append, length-map, List·getD-append, List·getD-map}
 use lib.Seq.{getD-append-seam}
-use Rattle.rules.specs.Lists.{elem}
-use Rattle.rules.specs.Expr.{op}
-use Rattle.rules.specs.Rows.{Row, leaf, inv, bin, rowAt, values, value, make, plan, Added, add}
-use Rattle.rules.specs.Sets.{Heads, act, operands, needs, reaches, Carried, carryOne, carryRow, carry, moved, after}
+use Rattle.rules.specs.Rows.{Row, leaf, inv, bin, rowAt, value, make, plan, Added, add}
+use Rattle.rules.specs.Sets.{Heads, act, reaches, Carried, carryOne, carryRow, carry, after}
 use Rattle.laws.specs.Lists.{map-ext, map-low, elem-at}
-use Rattle.laws.specs.Canonical.{Below, Canonical}
-use Rattle.laws.specs.Rows.{meaning, canonical-value, Ext, ext-refl, ext-trans, ext-length, ext-value, Ready, zero-is, one-is, op-earlier, Sound, add-sound, add-extends}
+use Rattle.laws.specs.Canonical.{Canonical}
+use Rattle.laws.specs.Rows.{meaning, canonical-value, Ext, ext-refl, ext-trans, ext-length, ext-value, zero-is, one-is, op-earlier, Sound, add-sound, add-extends}
 use Rattle.laws.specs.Reach.{needs-keeps, Operands, reaches-operands}
 
 -- Heads of C cells stand in a canonical table; past the last cell `getD` gives row 0, which stands too.

@@ -1,25 +1,25 @@
 -- An instruction's own set evaluates to the instruction's effect, and building only grows the table.
 use Prim.Native.Nat.{ℕ, zero, suc, _+_, _-_, _≤_, _<_}
-use mathlib.Core.Path.{_≡_, refl, sym, ap, _∙_}
+use mathlib.Core.Path.{_≡_, refl, ap, _∙_}
 use mathlib.Core.Bool.{Bool, true, false, not, cond}
-use mathlib.Core.List.{List, [], _∷_, map}
+use mathlib.Core.List.{List, map}
 use native.Mathlib.Omega.{arith}
-use lib.ListN.{length, getD, length-map}
+use lib.ListN.{length-map}
 use lib.Dec.{eqb, ltb}
-use borrow.Author.Tests.{ltb-true, ltb-false, eqb-false}
+use borrow.Author.Tests.{ltb-true, eqb-false}
 use Rattle.rules.specs.Lists.{from}
 use Rattle.rules.specs.Shape.{Shape, vars, flag, cells}
-use Rattle.rules.specs.Expr.{Exp, con, cell, neg, bin, op, eval}
+use Rattle.rules.specs.Expr.{Exp, con, cell, neg, bin, eval}
 use Rattle.rules.specs.Instr.{Plain, INIT, NOT, TAND, TOR, PUSH, POP, DROP, DUP, FSWP, ESWP, LOAD, AND, OR, EPUSH, STORE, SET, RES, REDGE, FEDGE}
 use Rattle.rules.specs.Instr.{Instr, plain, JP, JPC, JS, JSC, END, put, keep, stack, e, pushed, popped, effect, effects}
 use Rattle.rules.specs.Machine.{perform}
-use Rattle.rules.specs.Rows.{Row, leaf, inv, rowOfCell, rowAt, values, value, Added, add}
-use Rattle.rules.specs.Sets.{Heads, each, after}
-use Rattle.rules.specs.Build.{addExp, own, Built, setAt, turnHeads, turn, turns}
+use Rattle.rules.specs.Rows.{Row, inv, rowOfCell, value}
+use Rattle.rules.specs.Sets.{after}
+use Rattle.rules.specs.Build.{addExp, own, Built, setAt, turnHeads}
 use Rattle.laws.specs.Lists.{length-from}
 use Rattle.laws.specs.Canonical.{Canonical, Over, Names}
-use Rattle.laws.specs.Rows.{meaning, canonical-value, Ext, ext-refl, ext-trans, ext-length, ext-value, zero-is, one-is, Sound, add-sound, add-extends}
-use Rattle.laws.specs.After.{Stands, Acts, over, after-extends}
+use Rattle.laws.specs.Rows.{cell-value, Ext, ext-refl, ext-trans, ext-length, ext-value, zero-is, one-is, Sound, add-sound, add-extends}
+use Rattle.laws.specs.After.{Acts, after-extends}
 use Rattle.laws.specs.Choice.{All, Good, each-extends, each-count, each-owed, owed-acts, choice-extends}
 
 -- ---- expressions
@@ -33,10 +33,6 @@ addExp-extends t (bin o x y) =
     let a = addExp t x in
     let b = addExp (a .tab) y in
     ext-trans (addExp-extends t x) (ext-trans (addExp-extends (a .tab) y) (add-extends (b .tab) (Rattle.rules.specs.Rows.bin o (a .row) (b .row))))
-
--- The row of a cell has the cell's value.
-pub cell-value : {C : ℕ} {t : List Row} → Canonical C t → (s : List Bool) (c : ℕ) → c < C → value t s (rowOfCell c) ≡ getD s c false
-cell-value {t = t} w s c h = canonical-value w s (rowOfCell c) (omega (arith, w .long)) ∙ ap (meaning t s) (w .leaf-at (rowOfCell c) (omega arith))
 
 -- The rows of an expression have its value.
 pub addExp-sound : {C : ℕ} {t : List Row} → Canonical C t → (x : Exp) → Over C x → Sound C (addExp t x) (λ s. eval s x)

@@ -1,12 +1,12 @@
 -- What the laws say of tables, sets and programs: the properties that building keeps and that files are checked for. No proofs here.
-use Prim.Native.Nat.{ℕ, suc, _+_, _-_, _^_, _≤_, _<_}
+use Prim.Native.Nat.{ℕ, suc, _+_, _^_, _≤_, _<_}
 use mathlib.Core.Path.{_≡_}
-use mathlib.Core.Bool.{Bool, true, false}
+use mathlib.Core.Bool.{true}
 use mathlib.Core.List.{List}
 use lib.ListN.{length, getD}
 use Rattle.rules.specs.Verdict.{granted}
 use Rattle.rules.specs.Edition.{Edition, mostRows, mostInstrs}
-use Rattle.rules.specs.Shape.{Shape, vars, cells, checkShape}
+use Rattle.rules.specs.Shape.{vars, cells, checkShape}
 use Rattle.rules.specs.Expr.{Exp, con, cell, neg, bin}
 use Rattle.rules.specs.Instr.{Plain, INIT, NOT, TAND, TOR, PUSH, POP, DROP, DUP, FSWP, ESWP, LOAD, AND, OR, EPUSH, STORE, SET, RES, REDGE, FEDGE}
 use Rattle.rules.specs.Instr.{Instr, plain, JP, JPC, JS, JSC, END}

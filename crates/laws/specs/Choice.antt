@@ -1,17 +1,17 @@
 -- Heads made one after another in one table; choice by a row evaluates as the one set or the other.
-use Prim.Native.Nat.{ℕ, zero, suc, _+_, _≤_, _<_}
+use Prim.Native.Nat.{ℕ, zero, suc, _<_}
 use mathlib.Core.Path.{_≡_, refl, sym, ap, ap₂, _∙_}
 use mathlib.Core.Bool.{Bool, true, false, not, cond, or-false}
-use mathlib.Core.List.{List, [], _∷_, _++_, map, zipWith, zip}
+use mathlib.Core.List.{List, [], _∷_, map, zipWith, zip}
 use native.Mathlib.Omega.{arith}
 use lib.ListN.{length, getD}
 use lib.Dec.{eqb}
 use borrow.Author.Tests.{eqb-true}
 use Rattle.rules.specs.Expr.{op}
-use Rattle.rules.specs.Rows.{Row, inv, bin, values, value, Added, add}
+use Rattle.rules.specs.Rows.{Row, inv, bin, value, Added, add}
 use Rattle.rules.specs.Sets.{Heads, act, each, fourRows, choose, choice}
 use Rattle.laws.specs.Canonical.{Canonical}
-use Rattle.laws.specs.Rows.{meaning, Ext, ext-refl, ext-trans, ext-length, ext-value, Ready, Sound, add-sound, add-extends}
+use Rattle.laws.specs.Rows.{Ext, ext-refl, ext-trans, ext-length, ext-value, Sound, add-sound, add-extends}
 use Rattle.laws.specs.After.{Stands, Acts, over}
 
 -- Every element of a list has the property.

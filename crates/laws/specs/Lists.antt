@@ -1,13 +1,13 @@
 -- Laws of counting, searching and maps on lists.
-use Prim.Native.Nat.{ℕ, zero, suc, _+_, _≤_, _<_}
+use Prim.Native.Nat.{ℕ, zero, suc, _+_, _-_, _≤_, _<_}
 use mathlib.Core.Path.{_≡_, refl, ap, ap₂, sym, _∙_}
-use mathlib.Core.Bool.{Bool, true, false, _||_, or-assoc, or-true}
+use mathlib.Core.Bool.{Bool, true, false, not, _||_, or-assoc, or-true}
 use mathlib.Core.List.{List, [], _∷_, _++_, map}
 use native.Mathlib.Omega.{arith}
 use native.Mathlib.Nat.{add-zero, add-suc, suc-add, zero-add}
-use lib.ListN.{length, getD, length-map}
+use lib.ListN.{length, getD}
 use lib.Dec.{eqb, ltb}
-use borrow.Author.Tests.{eqb-true, eqb-false, ltb-true, ltb-false, le-ltb, eq-eqb, ne-eqb}
+use borrow.Author.Tests.{ltb-false, not-false, le-ltb, eq-eqb}
 use Rattle.rules.specs.Lists.{from, elem, orElse, seek}
 
 -- ---- from
@@ -39,6 +39,26 @@ map-low g n e [] k = omega (arith, e 0)
 map-low g n e (x ∷ l) zero = e x
 map-low g n e (x ∷ l) (suc k) = map-low g n e l k
 
+module _ {A : Type 0} where
+  -- The images of the numbers from i + 1 on, by the numbers from i on.
+  pub map-shift : (f : ℕ → A) (i n : ℕ) → map f (from (suc i) n) ≡ map (λ k. f (suc k)) (from i n)
+  unfolding from
+  map-shift f i zero = refl
+  map-shift f i (suc n) = ap (λ l. f (suc i) ∷ l) (map-shift f (suc i) n)
+
+  -- The images of the first numbers are the elements of a list, if each is.
+  pub map-from : (f : ℕ → A) (d : A) (l : List A) → ((k : ℕ) → k < length l → f k ≡ getD l k d) → map f (from 0 (length l)) ≡ l
+  unfolding from
+  map-from f d [] e = refl
+  map-from f d (x ∷ l) e = rw (map-shift f 0 (length l), e 0 (omega arith), map-from (λ k. f (suc k)) d l (λ k h. e (suc k) (omega arith)))
+
+  -- The image of number k among those of the first n numbers.
+  pub getD-map-from : (f : ℕ → A) (d : A) (n k : ℕ) → k < n → getD (map f (from 0 n)) k d ≡ f k
+  unfolding from
+  getD-map-from f d zero k h = absurd (omega arith)
+  getD-map-from f d (suc n) zero h = refl
+  getD-map-from f d (suc n) (suc k) h = rw (map-shift f 0 n) (getD-map-from (λ i. f (suc i)) d n k (omega arith))
+
 -- ---- seek
 
 -- Where a search among n numbers from i on comes to the end, no number passed the test.
@@ -61,6 +81,20 @@ seek-end f (suc n) i e =
     let q : f i ≡ false = ap f (sym (add-zero i)) ∙ e 0 (omega arith) in
     let rest : seek f n (suc i) ≡ suc i + n = seek-end f n (suc i) (λ k h. ap f (omega arith) ∙ e (suc k) (omega arith)) in
     ap (λ t. orElse t i (λ u. seek f n (suc i))) q ∙ rest ∙ omega arith
+
+-- Where a search below n comes to the end, no number below n passes the test.
+pub search-none : (f : ℕ → Bool) (n : ℕ) → ltb (seek f n 0) n ≡ false → (k : ℕ) → k < n → f k ≡ false
+search-none f n e k h = rw zero-add at (seek-none f n 0 (omega (arith, ltb-false (seek f n 0) n e)) k h)
+
+-- Where no number below n passes the test, a search below n comes to the end.
+pub none-search : (f : ℕ → Bool) (n : ℕ) → ((k : ℕ) → k < n → f k ≡ false) → ltb (seek f n 0) n ≡ false
+none-search f n e = le-ltb (seek f n 0) n (omega (arith, seek-end f n 0 (λ k h. rw zero-add (e k h))))
+
+-- Where a search among the n numbers from l on for one that fails the test comes to the end, all of them pass it.
+pub search-all : (f : ℕ → Bool) (l n : ℕ) → ltb (seek (λ j. not (f (l + j))) n 0) n ≡ false → (i : ℕ) → l ≤ i → i < l + n → f i ≡ true
+search-all f l n e i p q =
+    let k : l + (i - l) ≡ i = omega arith in
+    rw k at (not-false (f (l + (i - l))) (search-none (λ j. not (f (l + j))) n e (i - l) (omega arith)))
 
 -- ---- elem
 

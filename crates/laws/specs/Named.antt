@@ -7,16 +7,16 @@ use mathlib.Core.Logic.{_⊎_, inl, inr}
 use native.Mathlib.Omega.{arith}
 use native.Mathlib.Decide.{decLt}
 use lib.ListN.{length, getD, take, drop, length-append, length-drop}
-use lib.Seq.{getD-drop, getD-take, take-suc, take-length, length-take-le, ext-getD}
+use lib.Seq.{getD-drop, take-suc, take-length, length-take-le}
 use lib.Dec.{eqb}
 use borrow.Author.Tests.{eqb-true, eq-eqb}
 use Rattle.rules.specs.Lists.{elem}
 use Rattle.rules.specs.Rows.{Row, leaf, inv, bin, base, rowAt}
-use Rattle.rules.specs.Sets.{unchanging, operands, needs, reaches, Carried, carryRow, carry, append, squeeze}
+use Rattle.rules.specs.Sets.{unchanging, operands, reaches, Carried, carryRow, carry, append, squeeze}
 use Rattle.rules.specs.SetFile.{named}
 use Rattle.laws.specs.Lists.{elem-append, elem-at, map-ext, map-id}
 use Rattle.laws.specs.Canonical.{Below, Canonical}
-use Rattle.laws.specs.Rows.{base-at, length-base, op-earlier, Ready}
+use Rattle.laws.specs.Rows.{base-take, op-earlier, Ready}
 use Rattle.laws.specs.Reach.{operands-low, needs-keeps, needs-closed, needs-origin, NamedBy, Operands, reaches-operands}
 use Rattle.laws.specs.After.{Stands, over, snoc-last, snoc-old}
 use Rattle.laws.specs.Squeeze.{ren, carry-op, unchanging-at, Packed, packed, canonical-ready}
@@ -130,10 +130,6 @@ ren-same : (new : List ℕ) (k : ℕ) (r : Row) → Ready k r → Operands (λ a
 ren-same new k (leaf i) h e = absurd h
 ren-same new k (inv a) h e = ap inv e
 ren-same new k (bin o a b) h e = ap₂ {C = Row} (bin o) (e .0) (e .1)
-
-base-take : {C : ℕ} {t : List Row} → Canonical C t → base C ≡ take (2 + C) t
-base-take {C} {t} w = ext-getD (leaf 0) (base C) (take (2 + C) t) (length-base C ∙ sym (length-take-le (2 + C) t (w .long)))
-    (λ i h. (let p : i < 2 + C = omega (arith, length-base C) in base-at C i p ∙ sym (getD-take (2 + C) t i (leaf 0) p ∙ w .leaf-at i p)))
 
 -- Where every operation row is reached, carrying k rows to the bare table gives the table's own beginning.
 record Fixed (C : ℕ) (t : List Row) (x : List ℕ) (k : ℕ) (m : Carried) : Type 0 where

@@ -2,7 +2,7 @@
 -- Each reader's law says what it hands back, and follows the reader's own text check by check.
 use Prim.Native.Nat.{ℕ, zero, suc, _+_, _-_, _≤_, _<_}
 use mathlib.Core.Path.{_≡_, refl}
-use mathlib.Core.Bool.{Bool, true, false, cond, not, _&&_}
+use mathlib.Core.Bool.{Bool, true, false, cond, not}
 use mathlib.Core.List.{List, [], _∷_}
 use native.Mathlib.Omega.{arith}
 use native.Mathlib.Nat.{add-zero, add-suc, suc-add, zero-add}
@@ -11,14 +11,14 @@ use lib.Dec.{leb, ltb, eqb}
 use borrow.Author.Tests.{ltb-true}
 use Rattle.rules.specs.Verdict.{Verdict, granted}
 use Rattle.rules.specs.Lists.{orElse, numberAt}
-use Rattle.rules.specs.Edition.{Edition, countAt, headerEnd, mostInstrs}
-use Rattle.rules.specs.Shape.{Shape, vars, checkShape, shapeAt, readHeader}
+use Rattle.rules.specs.Edition.{Edition, countAt, mostInstrs}
+use Rattle.rules.specs.Shape.{Shape, vars, checkShape, readHeader}
 use Rattle.rules.specs.Expr.{Exp, Read, Announced, leaf, one, two, bad, announced, readOperands, readExpr}
 use Rattle.rules.specs.Instr.{Instr, END}
 use Rattle.rules.specs.ProgramFile.{Program, Form, alone, withExpr, withVar, withLabel, unknown, codes, formOf, isEnd}
 use Rattle.rules.specs.ProgramFile.{entryAt, readOperand, readInstr, readInstrs, readProgram}
-use Rattle.laws.specs.Verdict.{check-granted, within}
 use Rattle.laws.specs.Verdict.{Grants, grants, refuses, grants-of, grants-self, grants-bind, grants-check, grants-within}
+use Rattle.laws.specs.Shape.{shape-limits, header-granted}
 use Rattle.laws.specs.Canonical.{Over, Names, Fine, WellFormed}
 
 -- If a leaf is announced, its cell is below v.
@@ -145,23 +145,13 @@ instrs-laid e file sh n (suc k) i p h =
     grants-bind (instrs-laid e file sh n k (suc i) (x .next) (omega arith)) λ xs l.
     grants (laid-more (rw q at f) l)
 
--- The shape that a header hands back was checked.
-header-shape : (e : Edition) (mark : ℕ) (file : List ℕ) → Grants (λ sh. checkShape e sh ≡ granted tt) (readHeader e mark file)
-unfolding readHeader
-header-shape e mark file =
-    grants-check (ltb (length file) (headerEnd e)) _ _ _ λ _.
-    grants-check (not (eqb (getD file 0 0) mark)) _ _ _ λ _.
-    grants-bind (grants-self (checkShape e (shapeAt e file))) λ _ s.
-    grants s
-
 -- Instructions with END last are a well-formed program: one that is not END is not the last, so another follows it.
 wellformed : (e : Edition) (P : Program) (n : ℕ) → checkShape e (P .shape) ≡ granted tt → 1 ≤ n → n ≤ mostInstrs
     → Laid (vars (P .shape)) n 0 (P .instrs) → not (isEnd (getD (P .instrs) (n - 1) END)) ≡ false → WellFormed P
 wellformed e P n s a b l q =
-    let d = P .shape .depth in
     let m : length (P .instrs) ≡ n = omega arith in
     record {
-      deep = within 2 d d 16 (check-granted (not (leb 2 d && leb d 16)) 3 1 _ s .0) .0;
+      deep = shape-limits e (P .shape) s .deep;
       some = omega arith;
       most = omega arith;
       fine = λ i h. rw m (rw zero-add at (l .placed i (next i (omega arith))));
@@ -177,7 +167,8 @@ read-grants : (e : Edition) (file : List ℕ) → Grants (λ P. WellFormed P × 
 unfolding readProgram
 read-grants e file =
     let n = numberAt 2 file (countAt e) in
-    grants-bind (header-shape e (e .programMark) file) λ sh s.
+    grants-bind (grants-self (readHeader e (e .programMark) file)) λ sh q.
+    let s = header-granted e (e .programMark) file sh q .shaped in
     grants-within 1 n n mostInstrs _ _ _ λ a b.
     grants-check (ltb (length file) (entryAt e n)) _ _ _ λ _.
     grants-bind (instrs-laid e file sh n n 0 (entryAt e n) (zero-add n)) λ xs l.

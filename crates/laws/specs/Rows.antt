@@ -2,17 +2,18 @@
 -- In order: equal rows; find and insert; values; tables that grow; the plan; adding.
 use Prim.Native.Nat.{ℕ, zero, suc, _+_, _≤_, _<_, min, max}
 use mathlib.Core.Path.{_≡_, refl, sym, ap, _∙_}
-use mathlib.Core.Bool.{Bool, true, false, not, cond, _&&_, and-comm, or-comm, and-self, or-self, Bool·not-not}
+use mathlib.Core.Bool.{Bool, true, false, not, cond, and-comm, or-comm, and-self, or-self, Bool·not-not}
 use mathlib.Core.List.{List, [], _∷_, _++_, append-assoc, append-nil}
 use native.Mathlib.Omega.{arith}
 use native.Mathlib.Decide.{decLt}
 use lib.ListN.{length, getD, take, drop, length-append, length-map, List·getD-append, List·getD-map}
-use lib.Seq.{getD-append-seam, length-take-le, split-at}
+use lib.Seq.{getD-append-seam, getD-take, length-take-le, split-at, ext-getD}
 use lib.Dec.{eqb}
 use borrow.Author.Tests.{eqb-true, eqb-false, eq-eqb, ne-eqb}
 use Rattle.rules.specs.Lists.{from}
 use Rattle.rules.specs.Expr.{op}
-use Rattle.rules.specs.Rows.{Row, leaf, inv, bin, base, rowAt, kind, left, right, same, rowValue, values, value, Plan, have, make, planNot, absorbing, neutral, planBin, plan, find, insert, Added, settle, add}
+use Rattle.rules.specs.Rows.{Row, leaf, inv, bin, base, rowOfCell, rowAt, kind, left, right, same, rowValue, values, value, Plan, have, make, planNot, absorbing, neutral, planBin, plan, find, insert, Added, settle, add}
+use Rattle.laws.specs.Verdict.{both-true}
 use Rattle.laws.specs.Lists.{length-from, getD-from}
 use Rattle.laws.specs.Canonical.{Below, Canonical}
 
@@ -33,14 +34,10 @@ parts-back (bin false a b) = refl
 
 -- Rows that the test calls the same are equal, and a row is the same as itself.
 pub same-true : (q r : Row) → same q r ≡ true → q ≡ r
-same-true q r e = go (eqb (kind q) (kind r)) refl (eqb (left q) (left r)) refl (eqb (right q) (right r)) refl e
-  where
-    go : (x : Bool) → eqb (kind q) (kind r) ≡ x → (y : Bool) → eqb (left q) (left r) ≡ y → (z : Bool) → eqb (right q) (right r) ≡ z → x && (y && z) ≡ true → q ≡ r
-    go true x true y true z w =
-        cc (parts-back q, parts-back r, eqb-true (kind q) (kind r) x, eqb-true (left q) (left r) y, eqb-true (right q) (right r) z)
-    go true x true y false z w = cc
-    go true x false y z z′ w = cc
-    go false x y y′ z z′ w = cc
+same-true q r e =
+    let (k, s) = both-true (eqb (kind q) (kind r)) _ e in
+    let (a, b) = both-true (eqb (left q) (left r)) _ s in
+    cc (parts-back q, parts-back r, eqb-true (kind q) (kind r) k, eqb-true (left q) (left r) a, eqb-true (right q) (right r) b)
 
 pub same-refl : (r : Row) → same r r ≡ true
 same-refl r = rw (eq-eqb (kind r) (kind r) refl, eq-eqb (left r) (left r) refl, eq-eqb (right r) (right r) refl)
@@ -72,6 +69,29 @@ inserts (q ∷ t) r = go (same q r) refl (inserts t r)
     go : (b : Bool) → same q r ≡ b → Inserts t r → Inserts (q ∷ t) r
     go true e k = here e
     go false e k = past e k
+
+-- No row before the one that is found is the same.
+pub find-first : (t : List Row) (r : Row) (i : ℕ) → i < find t r → same (rowAt t i) r ≡ false
+unfolding find
+find-first [] r i h = absurd (omega arith)
+find-first (q ∷ t) r i h = go (same q r) refl i h (find-first t r)
+  where
+    go : (b : Bool) → same q r ≡ b → (i : ℕ) → i < cond b 0 (suc (find t r)) → ((k : ℕ) → k < find t r → same (rowAt t k) r ≡ false)
+        → same (rowAt (q ∷ t) i) r ≡ false
+    go true e i h rest = absurd (omega arith)
+    go false e zero h rest = e
+    go false e (suc i) h rest = rest i (omega arith)
+
+-- A row that is equal to no row before it is found where it stands.
+pub find-at : (t : List Row) (k : ℕ) → k < length t → ((i : ℕ) → i < k → rowAt t i ≡ rowAt t k → ⊥) → find t (rowAt t k) ≡ k
+unfolding find
+find-at [] k h d = absurd (omega arith)
+find-at (q ∷ t) zero h d = rw (same-refl q)
+find-at (q ∷ t) (suc k) h d = go (same q (rowAt t k)) refl (find-at t k (omega arith) (λ i l. d (suc i) (omega arith)))
+  where
+    go : (b : Bool) → same q (rowAt t k) ≡ b → find t (rowAt t k) ≡ k → cond b 0 (suc (find t (rowAt t k))) ≡ suc k
+    go true e rest = absurd (d 0 (omega arith) (same-true q (rowAt t k) e))
+    go false e rest = ap suc rest
 
 -- ---- values
 
@@ -131,6 +151,10 @@ value-at t s i h b =
 pub canonical-value : {C : ℕ} {t : List Row} → Canonical C t → (s : List Bool) (i : ℕ) → i < length t → value t s i ≡ meaning t s (rowAt t i)
 canonical-value {C} {t} w s i h = elim (decLt i (2 + C)) [ yes p ↦ value-at t s i h (rw (w .leaf-at i p) tt) | no p ↦ value-at t s i h (w .earlier i (omega arith) h) ]
 
+-- The row of a cell has the cell's value.
+pub cell-value : {C : ℕ} {t : List Row} → Canonical C t → (s : List Bool) (c : ℕ) → c < C → value t s (rowOfCell c) ≡ getD s c false
+cell-value {t = t} w s c h = canonical-value w s (rowOfCell c) (omega (arith, w .long)) ∙ ap (meaning t s) (w .leaf-at (rowOfCell c) (omega arith))
+
 -- ---- the table before any operation
 
 pub length-base : (C : ℕ) → length (base C) ≡ 2 + C
@@ -140,6 +164,11 @@ length-base C = length-map (from 0 (2 + C)) leaf ∙ length-from 0 (2 + C)
 pub base-at : (C i : ℕ) → i < 2 + C → rowAt (base C) i ≡ leaf i
 unfolding base
 base-at C i h = List·getD-map leaf (from 0 (2 + C)) i 0 ∙ ap leaf (getD-from 0 (2 + C) i 0 h ∙ omega arith)
+
+-- A canonical table begins with it.
+pub base-take : {C : ℕ} {t : List Row} → Canonical C t → base C ≡ take (2 + C) t
+base-take {C} {t} w = ext-getD (leaf 0) (base C) (take (2 + C) t) (length-base C ∙ sym (length-take-le (2 + C) t (w .long)))
+    (λ i h. (let p : i < 2 + C = omega (arith, length-base C) in base-at C i p ∙ sym (getD-take (2 + C) t i (leaf 0) p ∙ w .leaf-at i p)))
 
 -- ---- tables that grow
 

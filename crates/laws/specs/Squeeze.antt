@@ -2,24 +2,22 @@
 -- The one idea: over a canonical table, putting reached rows at the end is the same as adding them by the rule, so the laws of *after* apply.
 use Prim.Native.Nat.{ℕ, zero, suc, _+_, _-_, _≤_, _<_, min, max}
 use mathlib.Core.Path.{_≡_, refl, sym, ap, ap₂, _∙_}
-use mathlib.Core.Bool.{Bool, true, false, cond, _||_, or-true}
-use mathlib.Core.List.{List, [], _∷_, _++_, map, flatMap}
-use mathlib.Core.Logic.{_⊎_, inl, inr}
+use mathlib.Core.Bool.{Bool, true, false, cond}
+use mathlib.Core.List.{List, [], _∷_, _++_, map}
 use native.Mathlib.Omega.{arith}
 use native.Mathlib.Decide.{decLt}
-use lib.ListN.{length, getD, take, drop, length-append, length-map, List·getD-append, List·getD-map, List·getD-eq-default}
+use lib.ListN.{length, getD, length-append, length-map, List·getD-map, List·getD-eq-default}
 use lib.Seq.{getD-append-seam, ext-getD}
 use lib.Dec.{eqb}
-use borrow.Author.Tests.{eqb-true, eqb-false, eq-eqb}
-use Rattle.rules.specs.Lists.{from, elem}
-use Rattle.rules.specs.Rows.{Row, leaf, inv, bin, base, rowOfCell, rowAt, value, Plan, have, make, planNot, absorbing, neutral, planBin, plan, find, insert, Added, settle, add}
-use Rattle.rules.specs.Sets.{Heads, act, unchanging, operands, needs, reaches, Carried, carryOne, carryRow, carry, moved, after, append, squeeze}
-use Rattle.laws.specs.Lists.{length-from, getD-from, elem-append, elem-at}
+use borrow.Author.Tests.{eqb-false}
+use Rattle.rules.specs.Lists.{from}
+use Rattle.rules.specs.Rows.{Row, leaf, inv, bin, base, rowOfCell, rowAt, value, have, make, planNot, absorbing, neutral, planBin, plan, find, Added, settle, add}
+use Rattle.rules.specs.Sets.{act, unchanging, reaches, Carried, carryOne, carryRow, carry, moved, after, append, squeeze}
+use Rattle.laws.specs.Lists.{length-from, getD-from}
 use Rattle.laws.specs.Canonical.{Below, Canonical}
-use Rattle.laws.specs.Rows.{Ext, ext-refl, ext-trans, ext-length, ext-row, Ready, below-more, op-earlier, zero-is, no-constant, planBin-normal, Inserts, stood, fresh, inserts, base-at, length-base, base-canonical}
-use Rattle.laws.specs.Reach.{needs-keeps, needs-origin, NamedBy, Operands, reaches-operands}
-use Rattle.laws.specs.Build.{cell-value}
-use Rattle.laws.specs.After.{Stands, Acts, over, carry-extends, snoc-last, snoc-old, after-acts}
+use Rattle.laws.specs.Rows.{Ext, ext-refl, ext-trans, ext-length, ext-row, Ready, below-more, op-earlier, zero-is, cell-value, no-constant, planBin-normal, Inserts, stood, fresh, inserts, base-at, length-base, base-canonical}
+use Rattle.laws.specs.Reach.{Operands, reaches-operands}
+use Rattle.laws.specs.After.{Stands, over, snoc-last, snoc-old, after-acts}
 
 -- ---- what a plan to make the very row tells
 

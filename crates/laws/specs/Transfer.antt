@@ -1,26 +1,25 @@
 -- T(i) evaluates to what the machine does from instruction i, for every return list, in fewer than 2^(n-i) steps.
-use Prim.Native.Nat.{ℕ, zero, suc, _+_, _-_, _*_, _^_, _≤_, _<_}
+use Prim.Native.Nat.{ℕ, suc, _+_, _-_, _*_, _^_, _≤_, _<_}
 use mathlib.Core.Path.{_≡_, refl, sym, ap, _∙_}
 use mathlib.Core.Bool.{Bool, true, false, cond}
 use mathlib.Core.List.{List, [], _∷_}
 use native.Mathlib.Omega.{arith}
 use native.Mathlib.Decide.{decLt}
-use native.Mathlib.Nat.{add-suc, suc-add, zero-add}
 use lib.ListN.{length, getD}
 use lib.Pow.{pow-mono}
 use Rattle.rules.specs.Shape.{Shape, vars, flag, cells}
 use Rattle.rules.specs.Instr.{INIT, Instr, plain, JP, JPC, JS, JSC, END}
 use Rattle.rules.specs.ProgramFile.{Program}
-use Rattle.rules.specs.Machine.{perform, State, due, stopped, back, obey, step, run}
-use Rattle.rules.specs.Rows.{Row, base, rowOfCell, value}
-use Rattle.rules.specs.Sets.{Heads, act, after, choice}
+use Rattle.rules.specs.Machine.{perform, due, back, obey, step, run}
+use Rattle.rules.specs.Rows.{Row, rowOfCell, value}
+use Rattle.rules.specs.Sets.{Heads, act, after}
 use Rattle.rules.specs.Build.{own, Built, setAt, turnHeads, turn, turns, transfer}
 use Rattle.laws.specs.Canonical.{Canonical, Fine, WellFormed}
-use Rattle.laws.specs.Rows.{Ext, ext-refl, ext-trans, base-canonical}
+use Rattle.laws.specs.Rows.{cell-value, base-canonical}
 use Rattle.laws.specs.Machine.{run-add}
-use Rattle.laws.specs.After.{Stands, Acts, over, stands-ext, act-kept, after-acts, after-extends}
+use Rattle.laws.specs.After.{Stands, over, stands-ext, act-kept, after-acts, after-extends}
 use Rattle.laws.specs.Choice.{choice-acts}
-use Rattle.laws.specs.Build.{cell-value, own-acts, own-extends, turnHeads-extends}
+use Rattle.laws.specs.Build.{own-acts, own-extends, turnHeads-extends}
 
 -- From instruction l and storage s the machine comes back with s′, whatever the return list, in fewer than 2^(n-l) steps.
 pub record Does (P : Program) (l : ℕ) (s s′ : List Bool) : Type 0 where

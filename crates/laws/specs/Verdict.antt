@@ -21,6 +21,20 @@ check-granted true n p g e =
     absurd (omega arith)
 check-granted false n p g e = (refl, e)
 
+-- A last check that is granted has found nothing.
+pub refuse-granted : (t : Bool) (n p : ℕ) → refuseIf t n p ≡ granted tt → t ≡ false
+refuse-granted true n p e =
+    let z : _≡_ {A = ℕ} 0 1 = cc in
+    absurd (omega arith)
+refuse-granted false n p e = refl
+
+-- Two tests that hold together hold each.
+pub both-true : (a b : Bool) → a && b ≡ true → (a ≡ true) × (b ≡ true)
+both-true true b e = (refl, e)
+both-true false b e =
+    let z : _≡_ {A = ℕ} 0 1 = cc in
+    absurd (omega arith)
+
 -- A check of two bounds that found nothing tells both; `ltb a b` is `leb (suc a) b`.
 pub within : (a b c d : ℕ) → not (leb a b && leb c d) ≡ false → (a ≤ b) × (c ≤ d)
 within a b c d = go (leb a b) (leb-true a b)
