@@ -69,6 +69,16 @@ snoc-last l a k e = rw (← e) (getD-append-seam l a [] 0)
 pub snoc-old : (l : List ℕ) (a k : ℕ) → length l ≡ k → (i : ℕ) → i < k → getD (l ++ (a ∷ [])) i 0 ≡ getD l i 0
 snoc-old l a k e i h = List·getD-append l (a ∷ []) 0 i (omega arith)
 
+-- What holds of each number of a list and of one more holds of each of the longer list.
+pub snoc-each : (P : ℕ → ℕ → Type 0) (l : List ℕ) (a k : ℕ) → length l ≡ k → ((i : ℕ) → i < k → P i (getD l i 0)) → P k a
+    → (i : ℕ) → i < suc k → P i (getD (l ++ (a ∷ [])) i 0)
+snoc-each P l a k e h p i g = elim (decLt i k) [
+    yes f ↦ rw (snoc-old l a k e i f) (h i f)
+    | no f ↦ (let z : i ≡ k = omega arith in rw (z, snoc-last l a k e) p) ]
+
+pub snoc-length : (l : List ℕ) (a k : ℕ) → length l ≡ k → length (l ++ (a ∷ [])) ≡ suc k
+snoc-length l a k e = length-append l (a ∷ []) ∙ omega arith
+
 pub snoc-low : (l : List ℕ) (a n m : ℕ) → ((i : ℕ) → getD l i 0 < m) → m ≤ n → a < n → (i : ℕ) → getD (l ++ (a ∷ [])) i 0 < n
 snoc-low [] a n m h g p zero = p
 snoc-low [] a n m h g p (suc i) = omega arith
@@ -134,20 +144,19 @@ module _ {C : ℕ} (t : List Row) (x : List ℕ) (u : List Row) (y : List ℕ) (
   stage-row : (k : ℕ) (m : Carried) → k < length u → Stage C t x u y k m → Ext t (m .tab) → (b : Bool) → reaches u y k ≡ b → Stage C t x u y (suc k) (carryRow add x m (rowAt u k) b)
   stage-row k m h g p false q = record {
       canonical = g .canonical;
-      size = length-append (m .new) (0 ∷ []) ∙ omega (arith, g .size);
+      size = snoc-length (m .new) 0 k (g .size);
       low = snoc-low (m .new) 0 (length (m .tab)) (length (m .tab)) (g .low) (omega arith) (omega (arith, g .canonical .long));
-      val = λ i j z s. elim (decLt i k) [ yes f ↦ rw (snoc-old (m .new) 0 k (g .size) i f) (g .val i f z s) | no f ↦ (let n : i ≡ k = omega arith in cc) ] }
+      val = snoc-each (λ i n. reaches u y i ≡ true → (s : List Bool) → value (m .tab) s n ≡ value u (act t x s) i) (m .new) 0 k (g .size) (g .val) (λ z s. cc) }
   stage-row k m h g p true q =
       let a = carryOne add x m (rowAt u k) in
       let z = one-sound k m h g p (rowAt u k) refl q in
       let more : Ext (m .tab) (a .tab) = carryOne-extends add add-extends x m (rowAt u k) in
       record {
       canonical = z .canonical;
-      size = length-append (m .new) (a .row ∷ []) ∙ omega (arith, g .size);
+      size = snoc-length (m .new) (a .row) k (g .size);
       low = snoc-low (m .new) (a .row) (length (a .tab)) (length (m .tab)) (g .low) (ext-length more) (z .low);
-      val = λ i j f s. elim (decLt i k) [
-        yes l ↦ rw (snoc-old (m .new) (a .row) k (g .size) i l) (ext-value more s (getD (m .new) i 0) (g .low i) ∙ g .val i l f s)
-        | no l ↦ (let n : i ≡ k = omega arith in rw (n, snoc-last (m .new) (a .row) k (g .size)) (z .val s)) ] }
+      val = snoc-each (λ i n. reaches u y i ≡ true → (s : List Bool) → value (a .tab) s n ≡ value u (act t x s) i) (m .new) (a .row) k (g .size)
+        (λ i l f s. ext-value more s (getD (m .new) i 0) (g .low i) ∙ g .val i l f s) (λ f. z .val) }
 
   stages : (k : ℕ) → k ≤ length u → Stage C t x u y k (carry add t x u y k)
   unfolding carry

@@ -16,3 +16,4 @@ pub mod Squeeze
 pub mod Named
 pub mod Fits
 pub mod SetFile
+pub mod Compose

@@ -6,7 +6,7 @@ use mathlib.Core.List.{List, [], _∷_, _++_, map, flatMap}
 use mathlib.Core.Logic.{_⊎_, inl, inr}
 use native.Mathlib.Omega.{arith}
 use native.Mathlib.Decide.{decLt}
-use lib.ListN.{length, getD, take, drop, length-append, length-drop}
+use lib.ListN.{length, getD, take, drop, length-drop}
 use lib.Seq.{getD-drop, take-suc, take-length, length-take-le}
 use lib.Dec.{eqb}
 use borrow.Author.Tests.{eqb-true, eq-eqb}
@@ -18,7 +18,7 @@ use Rattle.laws.specs.Lists.{elem-append, elem-at, map-ext, map-id}
 use Rattle.laws.specs.Canonical.{Below, Canonical}
 use Rattle.laws.specs.Rows.{base-take, op-earlier, Ready}
 use Rattle.laws.specs.Reach.{operands-low, needs-keeps, needs-closed, needs-origin, NamedBy, Operands, reaches-operands}
-use Rattle.laws.specs.After.{Stands, over, snoc-last, snoc-old}
+use Rattle.laws.specs.After.{Stands, over, snoc-length, snoc-each}
 use Rattle.laws.specs.Squeeze.{ren, carry-op, unchanging-at, Packed, packed, canonical-ready}
 
 -- A row of the list names a.
@@ -147,11 +147,9 @@ module _ {C : ℕ} {t : List Row} {x : List ℕ} (X : Stands C (over t x)) (all 
   fixed-snoc : (k : ℕ) (m : Carried) (u : List Row) (a : ℕ) → Fixed C t x k m → u ≡ take (max (suc k) (2 + C)) t → (reaches t x k ≡ true → a ≡ k)
       → Fixed C t x (suc k) (record { tab = u; new = m .new ++ (a ∷ []) })
   fixed-snoc k m u a g e p = record {
-      size = length-append (m .new) (a ∷ []) ∙ omega (arith, g .size);
+      size = snoc-length (m .new) a k (g .size);
       tab = e;
-      same = λ i h q. elim (decLt i k) [
-        yes f ↦ snoc-old (m .new) a k (g .size) i f ∙ g .same i f q
-        | no f ↦ (let z : i ≡ k = omega arith in rw (z, snoc-last (m .new) a k (g .size)) (p (rw z at q))) ] }
+      same = snoc-each (λ i n. reaches t x i ≡ true → n ≡ i) (m .new) a k (g .size) (g .same) p }
 
   fixed-row : (k : ℕ) (m : Carried) → Fixed C t x k m → k < length t → (b : Bool) → reaches t x k ≡ b → Fixed C t x (suc k) (carryRow append (unchanging C) m (rowAt t k) b)
   fixed-row k m g h false q =

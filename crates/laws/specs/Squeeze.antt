@@ -17,7 +17,7 @@ use Rattle.laws.specs.Lists.{length-from, getD-from}
 use Rattle.laws.specs.Canonical.{Below, Canonical}
 use Rattle.laws.specs.Rows.{Ext, ext-refl, ext-trans, ext-length, ext-row, Ready, below-more, op-earlier, zero-is, cell-value, no-constant, planBin-normal, Inserts, stood, fresh, inserts, base-at, length-base, base-canonical}
 use Rattle.laws.specs.Reach.{Operands, reaches-operands}
-use Rattle.laws.specs.After.{Stands, over, snoc-last, snoc-old, after-acts}
+use Rattle.laws.specs.After.{Stands, over, snoc-last, snoc-old, snoc-length, snoc-each, after-acts}
 
 -- ---- what a plan to make the very row tells
 
@@ -124,11 +124,10 @@ module _ {C : ℕ} (t : List Row) (x : List ℕ) (w : Canonical C t) where
       → ((p : ℕ) → length (m .tab) ≤ p → p < length u → (2 + C ≤ k) × (R k ≡ true) × (a ≡ p)) → length u ≤ 2 + C + (suc k - (2 + C))
       → Packed (suc k) (record { tab = u; new = m .new ++ (a ∷ []) })
   packed-step k m g h a u more place above fills small = record {
-      size = length-append (m .new) (a ∷ []) ∙ omega (arith, g .size);
+      size = snoc-length (m .new) a k (g .size);
       grown = ext-trans (g .grown) more;
-      placed = λ i p q. elim (decLt i k) [
-        yes l ↦ rw (old i l) (kept i (getD (m .new) i 0) (m .tab) (omega arith) more (g .placed i l q))
-        | no l ↦ (let z : i ≡ k = omega arith in rw (z, last) (kept k a u (omega arith) (ext-refl u) (place (rw z at q)))) ];
+      placed = snoc-each (λ i n. R i ≡ true → Placed i n u (m .new ++ (a ∷ []))) (m .new) a k (g .size)
+        (λ i l q. kept i (getD (m .new) i 0) (m .tab) (omega arith) more (g .placed i l q)) (λ q. kept k a u (omega arith) (ext-refl u) (place q));
       rising = λ i j p l q r. elim (decLt j k) [
         yes f ↦ rw (old i (omega arith), old j f) (g .rising i j p f q r)
         | no f ↦ (let z : j ≡ k = omega arith in rw (z, last, old i (omega arith)) (above (rw z at r) i (omega arith) q)) ];

@@ -37,6 +37,10 @@ scan e file storage budget = do
   s ← checkStorage (cells (P .shape)) storage
   scanProgram P budget s
 
+-- R36: evaluating a set on a storage.
+abbrev pub evaluateSet : TransferSet → List Bool → List Bool
+evaluateSet z s = act (z .tab) (z .heads) s
+
 -- R40: the set that heads over a table are, in its own numbering.
 unfoldable pub setOf : Shape → Heads → TransferSet
 setOf sh h =
@@ -88,7 +92,7 @@ evaluate e file storage lent = do
   z ← readSet e file
   s ← checkStorage (cells (z .shape)) storage
   _ ← refuseIf (ltb lent (length (z .tab))) 10 0
-  granted (act (z .tab) (z .heads) s)
+  granted (evaluateSet z s)
 
 -- R49: whether two shapes are the same.
 abbrev pub sameShape : Shape → Shape → Bool
