@@ -7,11 +7,11 @@ use native.Mathlib.Omega.{arith}
 use native.Mathlib.Decide.{decLt}
 use lib.ListN.{length, getD, length-append, length-map, List·getD-append, List·getD-map}
 use lib.Seq.{getD-append-seam}
-use Rattle.rules.specs.Rows.{Row, leaf, inv, bin, rowAt, value, make, plan, Added, add}
+use Rattle.rules.specs.Rows.{Row, leaf, inv, bin, rowAt, value, make, plan, add}
 use Rattle.rules.specs.Sets.{Heads, act, reaches, Carried, carryOne, carryRow, carry, after}
 use Rattle.laws.specs.Lists.{map-ext, map-low, elem-at}
 use Rattle.laws.specs.Canonical.{Canonical}
-use Rattle.laws.specs.Rows.{meaning, canonical-value, Ext, ext-refl, ext-trans, ext-length, ext-value, zero-is, one-is, op-earlier, Sound, add-sound, add-extends}
+use Rattle.laws.specs.Rows.{meaning, canonical-value, Ext, ext-length, ext-value, zero-is, one-is, op-earlier, Grown, bare, grown-one, grown-trans, grown-ext, Sound, add-sound}
 use Rattle.laws.specs.Reach.{needs-keeps, Operands, reaches-operands}
 
 -- Heads of C cells stand in a canonical table; past the last cell `getD` gives row 0, which stands too.
@@ -42,25 +42,24 @@ act-kept {t = t} {u = u} p x h s = act-ext u t x s s (λ c. ext-value p s (getD 
 
 -- ---- carrying rows
 
-module _ (put : List Row → Row → Added) (extends : (t : List Row) (r : Row) → Ext t (put t r .tab)) where
-  carryOne-extends : (x : List ℕ) (m : Carried) (r : Row) → Ext (m .tab) (carryOne put x m r .tab)
-  carryOne-extends x m (leaf i) = ext-refl (m .tab)
-  carryOne-extends x m (inv a) = extends (m .tab) (inv (getD (m .new) a 0))
-  carryOne-extends x m (bin o a b) = extends (m .tab) (bin o (getD (m .new) a 0) (getD (m .new) b 0))
+carryOne-grown : (x : List ℕ) (m : Carried) (r : Row) → Grown (m .tab) (carryOne add x m r .tab)
+carryOne-grown x m (leaf i) = bare (m .tab)
+carryOne-grown x m (inv a) = grown-one (m .tab) (inv (getD (m .new) a 0))
+carryOne-grown x m (bin o a b) = grown-one (m .tab) (bin o (getD (m .new) a 0) (getD (m .new) b 0))
 
-  carryRow-extends : (x : List ℕ) (m : Carried) (r : Row) (b : Bool) → Ext (m .tab) (carryRow put x m r b .tab)
-  carryRow-extends x m r false = ext-refl (m .tab)
-  carryRow-extends x m r true = carryOne-extends x m r
+carryRow-grown : (x : List ℕ) (m : Carried) (r : Row) (b : Bool) → Grown (m .tab) (carryRow add x m r b .tab)
+carryRow-grown x m r false = bare (m .tab)
+carryRow-grown x m r true = carryOne-grown x m r
 
-  -- Carrying only ever grows the table.
-  pub carry-extends : (t : List Row) (x : List ℕ) (u : List Row) (y : List ℕ) (k : ℕ) → Ext t (carry put t x u y k .tab)
-  unfolding carry
-  carry-extends t x u y zero = ext-refl t
-  carry-extends t x u y (suc k) = ext-trans (carry-extends t x u y k) (carryRow-extends x (carry put t x u y k) (rowAt u k) (reaches u y k))
+-- Carrying by the rule is additions.
+pub carry-grown : (t : List Row) (x : List ℕ) (u : List Row) (y : List ℕ) (k : ℕ) → Grown t (carry add t x u y k .tab)
+unfolding carry
+carry-grown t x u y zero = bare t
+carry-grown t x u y (suc k) = grown-trans (carry-grown t x u y k) (carryRow-grown x (carry add t x u y k) (rowAt u k) (reaches u y k))
 
-pub after-extends : (t : List Row) (x : List ℕ) (u : List Row) (y : List ℕ) → Ext t (after t x u y .tab)
+pub after-grown : (t : List Row) (x : List ℕ) (u : List Row) (y : List ℕ) → Grown t (after t x u y .tab)
 unfolding after
-after-extends t x u y = carry-extends add add-extends t x u y (length u)
+after-grown t x u y = carry-grown t x u y (length u)
 
 -- A number put at the end of a list of numbers, and those before it.
 pub snoc-last : (l : List ℕ) (a k : ℕ) → length l ≡ k → getD (l ++ (a ∷ [])) k 0 ≡ a
@@ -150,7 +149,7 @@ module _ {C : ℕ} (t : List Row) (x : List ℕ) (u : List Row) (y : List ℕ) (
   stage-row k m h g p true q =
       let a = carryOne add x m (rowAt u k) in
       let z = one-sound k m h g p (rowAt u k) refl q in
-      let more : Ext (m .tab) (a .tab) = carryOne-extends add add-extends x m (rowAt u k) in
+      let more : Ext (m .tab) (a .tab) = grown-ext (carryOne-grown x m (rowAt u k)) in
       record {
       canonical = z .canonical;
       size = snoc-length (m .new) (a .row) k (g .size);
@@ -162,7 +161,7 @@ module _ {C : ℕ} (t : List Row) (x : List ℕ) (u : List Row) (y : List ℕ) (
   unfolding carry
   stages zero h = record { canonical = X .canonical; size = refl; low = λ i. omega (arith, X .canonical .long); val = λ i j. absurd (omega arith) }
   stages (suc k) h =
-      stage-row k (carry add t x u y k) (omega arith) (stages k (omega arith)) (carry-extends add add-extends t x u y k) (reaches u y k) refl
+      stage-row k (carry add t x u y k) (omega arith) (stages k (omega arith)) (grown-ext (carry-grown t x u y k)) (reaches u y k) refl
 
 -- The law of composition: a set after another stands, and evaluates as first then second.
 pub after-acts : {C : ℕ} (t : List Row) (x : List ℕ) (u : List Row) (y : List ℕ) → Stands C (over t x) → Stands C (over u y)

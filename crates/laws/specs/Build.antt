@@ -18,21 +18,21 @@ use Rattle.rules.specs.Sets.{after}
 use Rattle.rules.specs.Build.{addExp, own, Built, setAt, turnHeads}
 use Rattle.laws.specs.Lists.{length-from}
 use Rattle.laws.specs.Canonical.{Canonical, Over, Names}
-use Rattle.laws.specs.Rows.{cell-value, Ext, ext-refl, ext-trans, ext-length, ext-value, zero-is, one-is, Sound, add-sound, add-extends}
-use Rattle.laws.specs.After.{Acts, after-extends}
-use Rattle.laws.specs.Choice.{All, Good, each-extends, each-count, each-owed, owed-acts, choice-extends}
+use Rattle.laws.specs.Rows.{cell-value, ext-refl, ext-length, ext-value, zero-is, one-is, Grown, bare, plus, grown-trans, grown-ext, Sound, add-sound}
+use Rattle.laws.specs.After.{Acts, after-grown}
+use Rattle.laws.specs.Choice.{All, Good, each-grown, each-count, each-owed, owed-acts, choice-grown}
 
 -- ---- expressions
 
-pub addExp-extends : (t : List Row) (x : Exp) → Ext t (addExp t x .tab)
+pub addExp-grown : (t : List Row) (x : Exp) → Grown t (addExp t x .tab)
 unfolding addExp
-addExp-extends t (con b) = ext-refl t
-addExp-extends t (cell c) = ext-refl t
-addExp-extends t (neg x) = ext-trans (addExp-extends t x) (add-extends (addExp t x .tab) (inv (addExp t x .row)))
-addExp-extends t (bin o x y) =
+addExp-grown t (con b) = bare t
+addExp-grown t (cell c) = bare t
+addExp-grown t (neg x) = plus (addExp-grown t x) (inv (addExp t x .row))
+addExp-grown t (bin o x y) =
     let a = addExp t x in
     let b = addExp (a .tab) y in
-    ext-trans (addExp-extends t x) (ext-trans (addExp-extends (a .tab) y) (add-extends (b .tab) (Rattle.rules.specs.Rows.bin o (a .row) (b .row))))
+    plus (grown-trans (addExp-grown t x) (addExp-grown (a .tab) y)) (Rattle.rules.specs.Rows.bin o (a .row) (b .row))
 
 -- The rows of an expression have its value.
 pub addExp-sound : {C : ℕ} {t : List Row} → Canonical C t → (x : Exp) → Over C x → Sound C (addExp t x) (λ s. eval s x)
@@ -49,7 +49,7 @@ addExp-sound {t = t} w (bin o x y) h =
     let a = addExp-sound w x (h .0) in
     let q = addExp (p .tab) y in
     let b = addExp-sound (a .canonical) y (h .1) in
-    let more = addExp-extends (p .tab) y in
+    let more = grown-ext (addExp-grown (p .tab) y) in
     let n = add-sound (b .canonical) (Rattle.rules.specs.Rows.bin o (p .row) (q .row)) (omega (arith, a .low, ext-length more), b .low) in
     record { canonical = n .canonical; low = n .low; val = λ s. cc (n .val s, a .val s, b .val s, ext-value more s (p .row) (a .low)) }
 
@@ -119,30 +119,30 @@ all-map-from P g i (suc n) h = (h i (omega arith), all-map-from P g (suc i) n (�
 
 -- ---- an instruction's own set
 
-pub own-extends : (t : List Row) (sh : Shape) (p : Plain) → Ext t (own t sh p .tab)
+pub own-grown : (t : List Row) (sh : Shape) (p : Plain) → Grown t (own t sh p .tab)
 unfolding own
-own-extends t sh p = each-extends addExp addExp-extends t (effects sh p)
+own-grown t sh p = each-grown addExp addExp-grown t (effects sh p)
 
 -- An instruction's own set evaluates to what the instruction does.
 pub own-acts : (t : List Row) (sh : Shape) → 2 ≤ sh .depth → Canonical (cells sh) t → (p : Plain) → Names (vars sh) p → Acts (cells sh) (own t sh p) (perform sh p)
 unfolding own effects perform
 own-acts t sh d w p n =
     let xs = map (effect sh p) (from 0 (cells sh)) in
-    owed-acts (each-owed addExp addExp-extends t eval xs good t (ext-refl t) w) (each-count addExp addExp-extends t xs ∙ length-map (from 0 (cells sh)) (effect sh p) ∙ length-from 0 (cells sh))
+    owed-acts (each-owed addExp addExp-grown t eval xs good t (ext-refl t) w) (each-count addExp addExp-grown t xs ∙ length-map (from 0 (cells sh)) (effect sh p) ∙ length-from 0 (cells sh))
   where
     good : All (Good (cells sh) addExp t eval) (map (effect sh p) (from 0 (cells sh)))
     good = all-map-from (Good (cells sh) addExp t eval) (effect sh p) 0 (cells sh) (λ c h u q v. addExp-sound v (effect sh p c) (effect-over sh d p n c (omega arith)))
 
 -- ---- tables only grow
 
-pub turnHeads-extends : (sh : Shape) (i : ℕ) (x : Instr) (b : Built) → Ext (b .tab) (turnHeads sh i x b .tab)
-turnHeads-extends sh i (plain p) b =
+pub turnHeads-grown : (sh : Shape) (i : ℕ) (x : Instr) (b : Built) → Grown (b .tab) (turnHeads sh i x b .tab)
+turnHeads-grown sh i (plain p) b =
     let o = own (b .tab) sh p in
-    ext-trans (own-extends (b .tab) sh p) (after-extends (o .tab) (o .heads) (o .tab) (setAt b (suc i) (suc i)))
-turnHeads-extends sh i (JP l) b = ext-refl (b .tab)
-turnHeads-extends sh i (JPC l) b = choice-extends (b .tab) (rowOfCell (flag sh)) (setAt b (suc i) l) (setAt b (suc i) (suc i))
-turnHeads-extends sh i (JS l) b = after-extends (b .tab) (setAt b (suc i) l) (b .tab) (setAt b (suc i) (suc i))
-turnHeads-extends sh i (JSC l) b =
+    grown-trans (own-grown (b .tab) sh p) (after-grown (o .tab) (o .heads) (o .tab) (setAt b (suc i) (suc i)))
+turnHeads-grown sh i (JP l) b = bare (b .tab)
+turnHeads-grown sh i (JPC l) b = choice-grown (b .tab) (rowOfCell (flag sh)) (setAt b (suc i) l) (setAt b (suc i) (suc i))
+turnHeads-grown sh i (JS l) b = after-grown (b .tab) (setAt b (suc i) l) (b .tab) (setAt b (suc i) (suc i))
+turnHeads-grown sh i (JSC l) b =
     let a = after (b .tab) (setAt b (suc i) l) (b .tab) (setAt b (suc i) (suc i)) in
-    ext-trans (after-extends (b .tab) (setAt b (suc i) l) (b .tab) (setAt b (suc i) (suc i))) (choice-extends (a .tab) (rowOfCell (flag sh)) (a .heads) (setAt b (suc i) (suc i)))
-turnHeads-extends sh i END b = own-extends (b .tab) sh INIT
+    grown-trans (after-grown (b .tab) (setAt b (suc i) l) (b .tab) (setAt b (suc i) (suc i))) (choice-grown (a .tab) (rowOfCell (flag sh)) (a .heads) (setAt b (suc i) (suc i)))
+turnHeads-grown sh i END b = own-grown (b .tab) sh INIT

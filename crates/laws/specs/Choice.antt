@@ -11,7 +11,7 @@ use Rattle.rules.specs.Expr.{op}
 use Rattle.rules.specs.Rows.{Row, inv, bin, value, Added, add}
 use Rattle.rules.specs.Sets.{Heads, act, each, fourRows, choose, choice}
 use Rattle.laws.specs.Canonical.{Canonical}
-use Rattle.laws.specs.Rows.{Ext, ext-refl, ext-trans, ext-length, ext-value, Sound, add-sound, add-extends}
+use Rattle.laws.specs.Rows.{Ext, ext-refl, ext-trans, ext-length, ext-value, add-extends, Grown, bare, plus, grown-trans, grown-ext, Sound, add-sound}
 use Rattle.laws.specs.After.{Stands, Acts, over}
 
 -- Every element of a list has the property.
@@ -34,11 +34,11 @@ Good C put t v x = (u : List Row) → Ext t u → Canonical C u → Sound C (put
 
 -- ---- one after another
 
-module _ {A : Type 0} (put : List Row → A → Added) (extends : (t : List Row) (x : A) → Ext t (put t x .tab)) where
-  pub each-extends : (t : List Row) (xs : List A) → Ext t (each put t xs .tab)
+module _ {A : Type 0} (put : List Row → A → Added) (grown : (t : List Row) (x : A) → Grown t (put t x .tab)) where
+  pub each-grown : (t : List Row) (xs : List A) → Grown t (each put t xs .tab)
   unfolding each
-  each-extends t [] = ext-refl t
-  each-extends t (x ∷ xs) = ext-trans (extends t x) (each-extends (put t x .tab) xs)
+  each-grown t [] = bare t
+  each-grown t (x ∷ xs) = grown-trans (grown t x) (each-grown (put t x .tab) xs)
 
   pub each-count : (t : List Row) (xs : List A) → length (each put t xs .heads) ≡ length xs
   unfolding each
@@ -53,8 +53,8 @@ module _ {A : Type 0} (put : List Row → A → Added) (extends : (t : List Row)
   each-owed t v (x ∷ xs) g u p w =
       let a = put u x in
       let z = (g .0) u p w in
-      let rest = each-owed t v xs (g .1) (a .tab) (ext-trans p (extends u x)) (z .canonical) in
-      let more = each-extends (a .tab) xs in
+      let rest = each-owed t v xs (g .1) (a .tab) (ext-trans p (grown-ext (grown u x))) (z .canonical) in
+      let more = grown-ext (each-grown (a .tab) xs) in
       record {
       canonical = rest .canonical;
       low = each-low (a .row) (each put (a .tab) xs .heads) (omega (arith, z .low, ext-length more)) (rest .low);
@@ -66,22 +66,21 @@ module _ {A : Type 0} (put : List Row → A → Added) (extends : (t : List Row)
 
 -- ---- choice
 
-fourRows-extends : (t : List Row) (f x y : ℕ) → Ext t (fourRows t f x y .tab)
+fourRows-grown : (t : List Row) (f x y : ℕ) → Grown t (fourRows t f x y .tab)
 unfolding fourRows
-fourRows-extends t f x y =
+fourRows-grown t f x y =
     let n = add t (inv f) in
     let a = add (n .tab) (bin true f x) in
     let b = add (a .tab) (bin true (n .row) y) in
-    ext-trans (add-extends t (inv f)) (ext-trans (add-extends (n .tab) (bin true f x))
-    (ext-trans (add-extends (a .tab) (bin true (n .row) y)) (add-extends (b .tab) (bin false (a .row) (b .row)))))
+    plus (plus (plus (plus (bare t) (inv f)) (bin true f x)) (bin true (n .row) y)) (bin false (a .row) (b .row))
 
-pub choose-extends : (t : List Row) (f x y : ℕ) → Ext t (choose t f x y .tab)
+pub choose-grown : (t : List Row) (f x y : ℕ) → Grown t (choose t f x y .tab)
 unfolding choose
-choose-extends t f x y = go (eqb x y)
+choose-grown t f x y = go (eqb x y)
   where
-    go : (q : Bool) → Ext t (cond q (record { tab = t; row = x }) (fourRows t f x y) .tab)
-    go true = ext-refl t
-    go false = fourRows-extends t f x y
+    go : (q : Bool) → Grown t (cond q (record { tab = t; row = x }) (fourRows t f x y) .tab)
+    go true = bare t
+    go false = fourRows-grown t f x y
 
 either : (f x y : Bool) → op false (op true f x) (op true (not f) y) ≡ cond f x y
 either true x y = or-false x
@@ -121,9 +120,9 @@ choose-sound {C} {t} w f x y hf hx hy = go (eqb x y) refl
     go true e = record { canonical = w; low = hx; val = λ s. cond-same (value t s f) (value t s x) (value t s y) (ap (value t s) (eqb-true x y e)) }
     go false e = fourRows-sound w f x y hf hx hy
 
-pub choice-extends : (t : List Row) (f : ℕ) (x y : List ℕ) → Ext t (choice t f x y .tab)
+pub choice-grown : (t : List Row) (f : ℕ) (x y : List ℕ) → Grown t (choice t f x y .tab)
 unfolding choice
-choice-extends t f x y = each-extends (λ u p. choose u f (p .0) (p .1)) (λ u p. choose-extends u f (p .0) (p .1)) t (zip x y)
+choice-grown t f x y = each-grown (λ u p. choose u f (p .0) (p .1)) (λ u p. choose-grown u f (p .0) (p .1)) t (zip x y)
 
 length-zip : (x y : List ℕ) → length x ≡ length y → length (zip x y) ≡ length x
 unfolding zip zipWith
@@ -153,11 +152,11 @@ pub choice-acts : {C : ℕ} (t : List Row) (f : ℕ) (x y : List ℕ) → f < le
 unfolding choice act
 choice-acts {C} t f x y h X Y =
     let put : List Row → ℕ × ℕ → Added = λ u p. choose u f (p .0) (p .1) in
-    let ext : (u : List Row) (p : ℕ × ℕ) → Ext u (put u p .tab) = λ u p. choose-extends u f (p .0) (p .1) in
+    let grown : (u : List Row) (p : ℕ × ℕ) → Grown u (put u p .tab) = λ u p. choose-grown u f (p .0) (p .1) in
     let v : List Bool → ℕ × ℕ → Bool = λ s p. cond (value t s f) (value t s (p .0)) (value t s (p .1)) in
     let same : length x ≡ length y = X .count ∙ sym (Y .count) in
-    let o = each-owed put ext t v (zip x y) (all-zip (Good C put t v) (length t) x y good (X .low) (Y .low)) t (ext-refl t) (X .canonical) in
-    owed-acts (record { canonical = o .canonical; low = o .low; val = λ s. o .val s ∙ by s }) (each-count put ext t (zip x y) ∙ length-zip x y same ∙ X .count)
+    let o = each-owed put grown t v (zip x y) (all-zip (Good C put t v) (length t) x y good (X .low) (Y .low)) t (ext-refl t) (X .canonical) in
+    owed-acts (record { canonical = o .canonical; low = o .low; val = λ s. o .val s ∙ by s }) (each-count put grown t (zip x y) ∙ length-zip x y same ∙ X .count)
   where
     good : (a b : ℕ) → a < length t → b < length t → Good C (λ u (p : ℕ × ℕ). choose u f (p .0) (p .1)) t (λ s p. cond (value t s f) (value t s (p .0)) (value t s (p .1))) (a, b)
     good a b ha hb u p w =

@@ -17,3 +17,4 @@ pub mod Named
 pub mod Fits
 pub mod SetFile
 pub mod Compose
+pub mod Room

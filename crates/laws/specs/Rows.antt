@@ -204,13 +204,29 @@ insert-extends t r = go (inserts t r)
     go (stood a b c) = rw a (ext-refl t)
     go (fresh a b c) = record { more = r ∷ []; is = a }
 
--- Adding only ever grows a table.
 pub add-extends : (t : List Row) (r : Row) → Ext t (add t r .tab)
 add-extends t r = go (plan t r)
   where
     go : (p : Plan) → Ext t (settle t p .tab)
     go (have i) = ext-refl t
     go (make q) = insert-extends t q
+
+-- u is t after some additions, one after another.
+pub data Grown : List Row → List Row → Type 0 where
+  bare : (t : List Row) → Grown t t
+  plus : {t u : List Row} → Grown t u → (r : Row) → Grown t (add u r .tab)
+
+pub grown-one : (t : List Row) (r : Row) → Grown t (add t r .tab)
+grown-one t r = plus (bare t) r
+
+pub grown-trans : {t u w : List Row} → Grown t u → Grown u w → Grown t w
+grown-trans p (bare u) = p
+grown-trans p (plus q r) = plus (grown-trans p q) r
+
+-- Additions only ever grow a table.
+pub grown-ext : {t u : List Row} → Grown t u → Ext t u
+grown-ext (bare t) = ext-refl t
+grown-ext (plus {u = u} g r) = ext-trans (grown-ext g) (add-extends u r)
 
 -- ---- the plan
 

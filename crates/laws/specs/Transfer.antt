@@ -15,11 +15,11 @@ use Rattle.rules.specs.Rows.{Row, rowOfCell, value}
 use Rattle.rules.specs.Sets.{Heads, act, after}
 use Rattle.rules.specs.Build.{own, Built, setAt, turnHeads, turn, turns, transfer}
 use Rattle.laws.specs.Canonical.{Canonical, Fine, WellFormed}
-use Rattle.laws.specs.Rows.{cell-value, base-canonical}
+use Rattle.laws.specs.Rows.{grown-ext, cell-value, base-canonical}
 use Rattle.laws.specs.Machine.{run-add}
-use Rattle.laws.specs.After.{Stands, over, stands-ext, act-kept, after-acts, after-extends}
+use Rattle.laws.specs.After.{Stands, over, stands-ext, act-kept, after-acts, after-grown}
 use Rattle.laws.specs.Choice.{choice-acts}
-use Rattle.laws.specs.Build.{own-acts, own-extends, turnHeads-extends}
+use Rattle.laws.specs.Build.{own-acts, own-grown, turnHeads-grown}
 
 -- From instruction l and storage s the machine comes back with s′, whatever the return list, in fewer than 2^(n-l) steps.
 pub record Does (P : Program) (l : ℕ) (s s′ : List Bool) : Type 0 where
@@ -95,10 +95,10 @@ module _ (P : Program) where
         let o = own (b .tab) sh p in
         let O = own-acts (b .tab) sh (wf .deep) (m .canonical) p (f .0) in
         let y = m .stands (suc i) (omega arith) (f .1) in
-        let A = after-acts (o .tab) (o .heads) (o .tab) (T (suc i)) (O .stands) (stands-ext (O .stands .canonical) (own-extends (b .tab) sh p) (T (suc i)) y) in
+        let A = after-acts (o .tab) (o .heads) (o .tab) (T (suc i)) (O .stands) (stands-ext (O .stands .canonical) (grown-ext (own-grown (b .tab) sh p)) (T (suc i)) y) in
         record {
         stands = A .stands;
-        does = λ s. does-to i s _ _ (sym (A .val s ∙ ap (act (o .tab) (T (suc i))) (O .val s) ∙ act-kept (own-extends (b .tab) sh p) (T (suc i)) y (perform sh p s)))
+        does = λ s. does-to i s _ _ (sym (A .val s ∙ ap (act (o .tab) (T (suc i))) (O .val s) ∙ act-kept (grown-ext (own-grown (b .tab) sh p)) (T (suc i)) y (perform sh p s)))
         (does-go i (suc i) s (perform sh p s) _ (omega arith) (f .1) (at (plain p) e s) (m .does (suc i) (omega arith) (f .1) (perform sh p s))) }
     turned (JP l) e f = record {
         stands = m .stands l (f .0) (f .1);
@@ -121,7 +121,7 @@ module _ (P : Program) where
         let a = after (b .tab) (T l) (b .tab) (T (suc i)) in
         let y = m .stands (suc i) (omega arith) (omega arith) in
         let B = after-acts (b .tab) (T l) (b .tab) (T (suc i)) (m .stands l (f .0) (f .1)) y in
-        let more = after-extends (b .tab) (T l) (b .tab) (T (suc i)) in
+        let more = grown-ext (after-grown (b .tab) (T l) (b .tab) (T (suc i))) in
         let w = B .stands .canonical in
         let A = choice-acts (a .tab) (rowOfCell (flag sh)) (a .heads) (T (suc i)) (omega (arith, w .long)) (B .stands) (stands-ext w more (T (suc i)) y) in
         record {
@@ -140,7 +140,7 @@ module _ (P : Program) where
     turn-made =
         let x = getD (P .instrs) i END in
         let t = turned x refl (wf .fine i i<n) in
-        let more = turnHeads-extends sh i x b in
+        let more = grown-ext (turnHeads-grown sh i x b) in
         record {
         canonical = t .stands .canonical;
         stands = λ l h g. elim (decLt i l) [
