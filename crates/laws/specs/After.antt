@@ -72,8 +72,9 @@ snoc-old l a k e i h = List·getD-append l (a ∷ []) 0 i (omega arith)
 pub snoc-each : (P : ℕ → ℕ → Type 0) (l : List ℕ) (a k : ℕ) → length l ≡ k → ((i : ℕ) → i < k → P i (getD l i 0)) → P k a
     → (i : ℕ) → i < suc k → P i (getD (l ++ (a ∷ [])) i 0)
 snoc-each P l a k e h p i g = elim (decLt i k) [
-    yes f ↦ rw (snoc-old l a k e i f) (h i f)
-    | no f ↦ (let z : i ≡ k = omega arith in rw (z, snoc-last l a k e) p) ]
+  | yes f ↦ rw (snoc-old l a k e i f) (h i f)
+  | no f ↦ (let z : i ≡ k = omega arith in rw (z, snoc-last l a k e) p)
+]
 
 pub snoc-length : (l : List ℕ) (a k : ℕ) → length l ≡ k → length (l ++ (a ∷ [])) ≡ suc k
 snoc-length l a k e = length-append l (a ∷ []) ∙ omega arith
@@ -121,9 +122,10 @@ module _ {C : ℕ} (t : List Row) (x : List ℕ) (u : List Row) (y : List ℕ) (
       let own = leaf-own w k i h e in
       let low : getD (0 ∷ 1 ∷ x) i 0 < length t = head-low i in
       record {
-      canonical = g .canonical;
-      low = omega (arith, low, ext-length p);
-      val = λ s. ext-value p s (getD (0 ∷ 1 ∷ x) i 0) low ∙ head-value i (omega (arith, own .0, own .1)) s ∙ sym (canonical-value w (act t x s) k h ∙ ap (meaning u (act t x s)) e) }
+        canonical = g .canonical;
+        low = omega (arith, low, ext-length p);
+        val = λ s. ext-value p s (getD (0 ∷ 1 ∷ x) i 0) low ∙ head-value i (omega (arith, own .0, own .1)) s ∙ sym (canonical-value w (act t x s) k h ∙ ap (meaning u (act t x s)) e);
+      }
     where
       head-low : (i : ℕ) → getD (0 ∷ 1 ∷ x) i 0 < length t
       head-low zero = omega (arith, X .canonical .long)
@@ -142,20 +144,22 @@ module _ {C : ℕ} (t : List Row) (x : List ℕ) (u : List Row) (y : List ℕ) (
   -- One turn keeps the stage.
   stage-row : (k : ℕ) (m : Carried) → k < length u → Stage C t x u y k m → Ext t (m .tab) → (b : Bool) → reaches u y k ≡ b → Stage C t x u y (suc k) (carryRow add x m (rowAt u k) b)
   stage-row k m h g p false q = record {
-      canonical = g .canonical;
-      size = snoc-length (m .new) 0 k (g .size);
-      low = snoc-low (m .new) 0 (length (m .tab)) (length (m .tab)) (g .low) (omega arith) (omega (arith, g .canonical .long));
-      val = snoc-each (λ i n. reaches u y i ≡ true → (s : List Bool) → value (m .tab) s n ≡ value u (act t x s) i) (m .new) 0 k (g .size) (g .val) (λ z s. cc) }
+    canonical = g .canonical;
+    size = snoc-length (m .new) 0 k (g .size);
+    low = snoc-low (m .new) 0 (length (m .tab)) (length (m .tab)) (g .low) (omega arith) (omega (arith, g .canonical .long));
+    val = snoc-each (λ i n. reaches u y i ≡ true → (s : List Bool) → value (m .tab) s n ≡ value u (act t x s) i) (m .new) 0 k (g .size) (g .val) (λ z s. cc);
+  }
   stage-row k m h g p true q =
       let a = carryOne add x m (rowAt u k) in
       let z = one-sound k m h g p (rowAt u k) refl q in
       let more : Ext (m .tab) (a .tab) = grown-ext (carryOne-grown x m (rowAt u k)) in
       record {
-      canonical = z .canonical;
-      size = snoc-length (m .new) (a .row) k (g .size);
-      low = snoc-low (m .new) (a .row) (length (a .tab)) (length (m .tab)) (g .low) (ext-length more) (z .low);
-      val = snoc-each (λ i n. reaches u y i ≡ true → (s : List Bool) → value (a .tab) s n ≡ value u (act t x s) i) (m .new) (a .row) k (g .size)
-        (λ i l f s. ext-value more s (getD (m .new) i 0) (g .low i) ∙ g .val i l f s) (λ f. z .val) }
+        canonical = z .canonical;
+        size = snoc-length (m .new) (a .row) k (g .size);
+        low = snoc-low (m .new) (a .row) (length (a .tab)) (length (m .tab)) (g .low) (ext-length more) (z .low);
+        val = snoc-each (λ i n. reaches u y i ≡ true → (s : List Bool) → value (a .tab) s n ≡ value u (act t x s) i) (m .new) (a .row) k (g .size)
+            (λ i l f s. ext-value more s (getD (m .new) i 0) (g .low i) ∙ g .val i l f s) (λ f. z .val);
+      }
 
   stages : (k : ℕ) → k ≤ length u → Stage C t x u y k (carry add t x u y k)
   unfolding carry
@@ -172,10 +176,12 @@ after-acts {C} t x u y X Y =
     let g = stages t x u y X (Y .canonical) (length u) (omega arith) in
     let new : ℕ → ℕ = λ h. getD (m .new) h 0 in
     record {
-    stands = record {
-      canonical = g .canonical;
-      count = length-map y new ∙ Y .count;
-      low = map-low new (length (m .tab)) (g .low) y };
-    val = λ s. map-map (value (m .tab) s) new y
-      ∙ map-ext (λ h. value (m .tab) s (new h)) (value u (act t x s)) 0 y
-      (λ c h. g .val (getD y c 0) (Y .low c) (needs-keeps u (length u) (getD y c 0) y (elem-at y c 0 h)) s) }
+      stands = record {
+        canonical = g .canonical;
+        count = length-map y new ∙ Y .count;
+        low = map-low new (length (m .tab)) (g .low) y;
+      };
+      val = λ s. map-map (value (m .tab) s) new y
+          ∙ map-ext (λ h. value (m .tab) s (new h)) (value u (act t x s)) 0 y
+          (λ c h. g .val (getD y c 0) (Y .low c) (needs-keeps u (length u) (getD y c 0) y (elem-at y c 0 h)) s);
+    }

@@ -56,9 +56,10 @@ module _ {A : Type 0} (put : List Row → A → Added) (grown : (t : List Row) (
       let rest = each-owed t v xs (g .1) (a .tab) (ext-trans p (grown-ext (grown u x))) (z .canonical) in
       let more = grown-ext (each-grown (a .tab) xs) in
       record {
-      canonical = rest .canonical;
-      low = each-low (a .row) (each put (a .tab) xs .heads) (omega (arith, z .low, ext-length more)) (rest .low);
-      val = λ s. ap₂ {C = List Bool} _∷_ (ext-value more s (a .row) (z .low) ∙ z .val s) (rest .val s) }
+        canonical = rest .canonical;
+        low = each-low (a .row) (each put (a .tab) xs .heads) (omega (arith, z .low, ext-length more)) (rest .low);
+        val = λ s. ap₂ {C = List Bool} _∷_ (ext-value more s (a .row) (z .low) ∙ z .val s) (rest .val s);
+      }
     where
       each-low : {n : ℕ} (a : ℕ) (l : List ℕ) → a < n → ((c : ℕ) → getD l c 0 < n) → (c : ℕ) → getD (a ∷ l) c 0 < n
       each-low a l h g zero = h
@@ -101,10 +102,21 @@ fourRows-sound {C} {t} w f x y hf hx hy =
     let sb = add-sound (sa .canonical) (bin true (n .row) y) (omega (arith, sn .low, ext-length ea), omega (arith, ext-length en, ext-length ea)) in
     let sc = add-sound (sb .canonical) (bin false (a .row) (b .row)) (omega (arith, sa .low, ext-length eb), sb .low) in
     record {
-    canonical = sc .canonical;
-    low = sc .low;
-    val = λ s. cc (sc .val s, sb .val s, sa .val s, sn .val s, ext-value eb s (a .row) (sa .low), ext-value ea s (n .row) (sn .low),
-    ext-value en s f hf, ext-value en s x hx, ext-value (ext-trans en ea) s y hy, either (value t s f) (value t s x) (value t s y)) }
+      canonical = sc .canonical;
+      low = sc .low;
+      val = λ s. cc (
+        sc .val s,
+        sb .val s,
+        sa .val s,
+        sn .val s,
+        ext-value eb s (a .row) (sa .low),
+        ext-value ea s (n .row) (sn .low),
+        ext-value en s f hf,
+        ext-value en s x hx,
+        ext-value (ext-trans en ea) s y hy,
+        either (value t s f) (value t s x) (value t s y),
+      );
+    }
 
 cond-same : (b p q : Bool) → p ≡ q → p ≡ cond b p q
 cond-same true p q e = refl
@@ -163,5 +175,6 @@ choice-acts {C} t f x y h X Y =
         let n = ext-length p in
         let z = choose-sound w f a b (omega arith) (omega arith) (omega arith) in
         record { canonical = z .canonical; low = z .low; val = λ s. cc (z .val s, ext-value p s f h, ext-value p s a ha, ext-value p s b hb) }
+
     by : (s : List Bool) → map (λ (p : ℕ × ℕ). cond (value t s f) (value t s (p .0)) (value t s (p .1))) (zip x y) ≡ cond (value t s f) (act t x s) (act t y s)
     by s = map-zip (value t s) (value t s f) x y (X .count ∙ sym (Y .count))

@@ -101,9 +101,11 @@ module _ (C : ℕ) (t : List Row) (x : List ℕ) where
     where
       one : (a : ℕ) → (reaches (base C) (unchanging C) k ≡ true → a ≡ getD (0 ∷ 1 ∷ x) k 0) → Left C t x (suc k) (record { tab = m .tab; new = m .new ++ (a ∷ []) })
       one a p = record {
-          size = snoc-length (m .new) a k (g .size);
-          tab = g .tab;
-          same = snoc-each (λ i n. reaches (base C) (unchanging C) i ≡ true → n ≡ getD (0 ∷ 1 ∷ x) i 0) (m .new) a k (g .size) (g .same) p }
+        size = snoc-length (m .new) a k (g .size);
+        tab = g .tab;
+        same = snoc-each (λ i n. reaches (base C) (unchanging C) i ≡ true → n ≡ getD (0 ∷ 1 ∷ x) i 0) (m .new) a k (g .size) (g .same) p;
+      }
+
       go : (b : Bool) → reaches (base C) (unchanging C) k ≡ b → Left C t x (suc k) (carryRow add x m (rowAt (base C) k) b)
       go false q = one 0 (λ r. cc)
       go true q = rw (base-at C k h) (one (getD (0 ∷ 1 ∷ x) k 0) (λ r. refl))
@@ -125,6 +127,7 @@ module _ (C : ℕ) (t : List Row) (x : List ℕ) where
       head c h =
           let p : getD (from 2 C) c 0 ≡ rowOfCell c = getD-from 2 C c 0 h ∙ omega arith in
           rw p at (elem-at (from 2 C) c 0 (omega (arith, length-from 2 C)))
+
       heads : (m : Carried) → Left C t x (length (base C)) m → map (λ h. getD (m .new) h 0) (from 2 C) ≡ x
       heads m g = map-shift (λ h. getD (m .new) h 0) 1 C ∙ map-shift (λ h. getD (m .new) (suc h) 0) 0 C ∙ ap (λ n. map (λ h. getD (m .new) (suc (suc h)) 0) (from 0 n)) (sym e)
           ∙ map-from (λ h. getD (m .new) (suc (suc h)) 0) 0 x (λ c h. g .same (rowOfCell c) (omega (arith, length-base C)) (needs-keeps (base C) (length (base C)) (rowOfCell c) (from 2 C) (head c (omega arith))))

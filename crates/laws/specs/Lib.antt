@@ -18,3 +18,4 @@ pub mod Fits
 pub mod SetFile
 pub mod Compose
 pub mod Room
+pub mod Files

@@ -107,14 +107,19 @@ squeeze-named {C} {t} {x} X p h l = go (needs-origin t (length t) (o .0) x (o .3
   where
     w : Canonical C t
     w = X .canonical
+
     m : Carried
     m = carry append (base C) (unchanging C) t x (length t)
+
     g : Packed t x w (length t) m
     g = packed t x w (length t) (omega arith)
+
     N : ℕ → ℕ
     N a = getD (m .new) a 0
+
     o : (i : ℕ) × (i < length t) × (2 + C ≤ i) × (reaches t x i ≡ true) × (N i ≡ p)
     o = g .onto p h l
+
     go : (elem (o .0) x ≡ true) ⊎ NamedBy t (length t) (o .0) x → named (m .tab) (map N x) p ≡ true
     go (inl e) = named-head (m .tab) (map N x) p (rw (o .4) at (elem-map N (o .0) x e))
     go (inr n) =
@@ -147,17 +152,19 @@ module _ {C : ℕ} {t : List Row} {x : List ℕ} (X : Stands C (over t x)) (all 
   fixed-snoc : (k : ℕ) (m : Carried) (u : List Row) (a : ℕ) → Fixed C t x k m → u ≡ take (max (suc k) (2 + C)) t → (reaches t x k ≡ true → a ≡ k)
       → Fixed C t x (suc k) (record { tab = u; new = m .new ++ (a ∷ []) })
   fixed-snoc k m u a g e p = record {
-      size = snoc-length (m .new) a k (g .size);
-      tab = e;
-      same = snoc-each (λ i n. reaches t x i ≡ true → n ≡ i) (m .new) a k (g .size) (g .same) p }
+    size = snoc-length (m .new) a k (g .size);
+    tab = e;
+    same = snoc-each (λ i n. reaches t x i ≡ true → n ≡ i) (m .new) a k (g .size) (g .same) p;
+  }
 
   fixed-row : (k : ℕ) (m : Carried) → Fixed C t x k m → k < length t → (b : Bool) → reaches t x k ≡ b → Fixed C t x (suc k) (carryRow append (unchanging C) m (rowAt t k) b)
   fixed-row k m g h false q =
       fixed-snoc k m (m .tab) 0 g (elim (decLt k (2 + C)) [ yes p ↦ g .tab ∙ taken (max k (2 + C)) (max (suc k) (2 + C)) (omega arith) | no p ↦ (let r = all k (omega arith) h in let z : _≡_ {A = ℕ} 0 1 = cc in absurd (omega arith)) ])
       (λ r. cc)
   fixed-row k m g h true q = elim (decLt k (2 + C)) [
-      yes p ↦ rw (w .leaf-at k p, unchanging-at C k p) (fixed-snoc k m (m .tab) k g (g .tab ∙ taken (max k (2 + C)) (max (suc k) (2 + C)) (omega arith)) (λ r. refl))
-      | no p ↦ op (omega arith) ]
+    | yes p ↦ rw (w .leaf-at k p, unchanging-at C k p) (fixed-snoc k m (m .tab) k g (g .tab ∙ taken (max k (2 + C)) (max (suc k) (2 + C)) (omega arith)) (λ r. refl))
+    | no p ↦ op (omega arith)
+  ]
     where
       op : 2 + C ≤ k → Fixed C t x (suc k) (carryRow append (unchanging C) m (rowAt t k) true)
       op p =

@@ -62,6 +62,7 @@ module _ (t : List Row) (b : (i : ℕ) → i < length t → Below i (rowAt t i))
       put false n m z =
           let p : elem k x ≡ true = rw n at m in
           cc
+
       top : i ≡ k → elem a (needs t k (more t k x)) ≡ true
       top z = needs-keeps t k a (more t k x) (put (elem k x) refl (sym (needs-high k k (more t k x) (omega arith) (omega arith)) ∙ rw z at e) z)
 
@@ -77,9 +78,10 @@ pub reaches-operands : (t : List Row) → ((i : ℕ) → i < length t → Below 
 unfolding elem
 reaches-operands t b x k (leaf i) h e q = tt
 reaches-operands t b x k (inv a) h e q = needs-closed t b (length t) k a x (omega arith) h q (rw (e, eq-eqb a a refl))
-reaches-operands t b x k (bin o a c) h e q =
-    (needs-closed t b (length t) k a x (omega arith) h q (rw (e, eq-eqb a a refl)),
-    needs-closed t b (length t) k c x (omega arith) h q (rw (e, eq-eqb c c refl) (or-true (eqb c a))))
+reaches-operands t b x k (bin o a c) h e q = (
+  needs-closed t b (length t) k a x (omega arith) h q (rw (e, eq-eqb a a refl)),
+  needs-closed t b (length t) k c x (omega arith) h q (rw (e, eq-eqb c c refl) (or-true (eqb c a))),
+)
 
 -- A needed number is one of those asked for, or an operand of a needed row.
 pub record NamedBy (t : List Row) (k j : ℕ) (x : List ℕ) : Type 0 where
@@ -96,9 +98,11 @@ needs-origin t (suc k) j x e = go (needs-origin t k j (more t k x) e)
     old : (b : Bool) → elem j (operands (rowAt t k)) ≡ b → elem k x ≡ true → b || elem j x ≡ true → (elem j x ≡ true) ⊎ NamedBy t (suc k) j x
     old true q m p = inr (record { by = k; low = omega arith; needed = needs-keeps t k k (more t k x) (more-keeps t k k x m); names = q })
     old false q m p = inl p
+
     here : (b : Bool) → elem k x ≡ b → elem j (cond b (operands (rowAt t k) ++ x) x) ≡ true → (elem j x ≡ true) ⊎ NamedBy t (suc k) j x
     here true m p = old (elem j (operands (rowAt t k))) refl m (sym (elem-append j (operands (rowAt t k)) x) ∙ p)
     here false m p = inl p
+
     go : (elem j (more t k x) ≡ true) ⊎ NamedBy t k j (more t k x) → (elem j x ≡ true) ⊎ NamedBy t (suc k) j x
     go (inl p) = here (elem k x) refl p
     go (inr n) = inr (record { by = n .by; low = omega (arith, n .low); needed = n .needed; names = n .names })

@@ -53,6 +53,7 @@ add-one-row t r = go (plan t r)
     inserted : (q : Row) → Inserts t q → length (insert t q) ≤ suc (length t)
     inserted q (stood a b c) = omega (arith, ap length a)
     inserted q (fresh a b c) = omega (arith, ap length a, length-append t (q ∷ []))
+
     go : (p : Plan) → length (settle t p .tab) ≤ suc (length t)
     go (have i) = omega arith
     go (make q) = inserted q (inserts t q)
@@ -61,8 +62,9 @@ add-one-row t r = go (plan t r)
 pub room-met : {t u : List Row} (n : ℕ) → Grown t u → length t ≤ n → n < length u → Met n t u
 room-met n (bare t) h g = absurd (omega arith)
 room-met n (plus {u = u} p r) h g = elim (decLt n (length u)) [
-    yes l ↦ (let m = room-met n p h l in record { full = m .full; row = m .row; from-start = m .from-start; holds = m .holds; appends = m .appends; to-end = plus (m .to-end) r })
-    | no l ↦ (let z : length u ≡ n = omega (arith, add-one-row u r) in record { full = u; row = r; from-start = p; holds = z; appends = omega (arith, add-one-row u r); to-end = bare (add u r .tab) }) ]
+  | yes l ↦ (let m = room-met n p h l in record { full = m .full; row = m .row; from-start = m .from-start; holds = m .holds; appends = m .appends; to-end = plus (m .to-end) r })
+  | no l ↦ (let z : length u ≡ n = omega (arith, add-one-row u r) in record { full = u; row = r; from-start = p; holds = z; appends = omega (arith, add-one-row u r); to-end = bare (add u r .tab) })
+]
 
 pub met-room : {t u : List Row} (n : ℕ) → Met n t u → n < length u
 met-room n m = omega (arith, m .appends, ext-length (grown-ext (m .to-end)))

@@ -56,6 +56,7 @@ inserts (q ∷ t) r = go (same q r) refl (inserts t r)
   where
     here : same q r ≡ true → Inserts (q ∷ t) r
     here e = stood (rw e) (rw e (omega arith)) (rw e (same-true q r e))
+
     past : same q r ≡ false → Inserts t r → Inserts (q ∷ t) r
     past e (stood a b c) = stood (rw (e, a)) (rw e (omega arith)) (rw e c)
     past e (fresh a b c) = fresh (rw (e, a)) (rw (e, b)) none
@@ -66,6 +67,7 @@ inserts (q ∷ t) r = go (same q r) refl (inserts t r)
             let y : _≡_ {A = ℕ} 0 1 = cc in
             omega arith
         none (suc i) h d = c i (omega arith) d
+
     go : (b : Bool) → same q r ≡ b → Inserts t r → Inserts (q ∷ t) r
     go true e k = here e
     go false e k = past e k
@@ -144,7 +146,7 @@ value-at t s i h b =
     let e : t ≡ take i t ++ (rowAt t i ∷ drop (suc i) t) = split-at t i (leaf 0) h in
     let b′ : Below (length (take i t)) (rowAt t i) = rw n b in
     let v : value (take i t ++ (rowAt t i ∷ drop (suc i) t)) s (length (take i t)) ≡ meaning (take i t ++ (rowAt t i ∷ drop (suc i) t)) s (rowAt t i)
-        = value-here (take i t) (drop (suc i) t) (rowAt t i) s b′ in
+    = value-here (take i t) (drop (suc i) t) (rowAt t i) s b′ in
     cc (e, n, v)
 
 -- The same for every row of a canonical table.
@@ -291,6 +293,7 @@ planBin-normal o a b p q h g =
     small : (o : Bool) → absorbing o < 2
     small true = omega arith
     small false = omega arith
+
     small′ : (o : Bool) → neutral o < 2
     small′ true = omega arith
     small′ false = omega arith
@@ -332,6 +335,7 @@ module _ {C : ℕ} {t : List Row} (w : Canonical C t) where
     where
       at : (s : List Bool) (a c : ℕ) → eqb a c ≡ true → value t s a ≡ value t s c
       at s a c e = ap (value t s) (eqb-true a c e)
+
       go : (p : Bool) → eqb a (absorbing o) ≡ p → (q : Bool) → eqb b (absorbing o) ≡ q → (m : Bool) → eqb a (neutral o) ≡ m → (n : Bool) → eqb b (neutral o) ≡ n
           → (k : Bool) → eqb a b ≡ k → Right t (bin o a b) (cond p (have a) (cond q (have b) (cond m (have b) (cond n (have a) (cond k (have a) (make (bin o (min a b) (max a b))))))))
       go true e q _ m _ n _ k _ = (ha, λ s. cc (at s a _ e, absorbing-is o s, op-absorb o (value t s b)))
@@ -350,6 +354,7 @@ module _ {C : ℕ} {t : List Row} (w : Canonical C t) where
               let x : min a b ≡ a = omega arith in
               let y : max a b ≡ b = omega arith in
               rw (x, y) ((ha, hb), λ s. refl, planBin-normal o a b (rowAt t a) (rowAt t b) g h)
+
           falling : (a b : ℕ) → a < length t → b < length t → 2 ≤ b → b < a → Right t (bin o a b) (make (bin o (min a b) (max a b)))
           falling a b ha hb g h =
               let x : min a b ≡ b = omega arith in
@@ -375,20 +380,25 @@ pub canonical-append : {C : ℕ} {t : List Row} → Canonical C t → (r : Row) 
     → ((i : ℕ) → i < length t → rowAt t i ≡ r → ⊥) → Canonical C (t ++ (r ∷ []))
 canonical-append {C} {t} w r h e none =
     record {
-    long = omega (arith, w .long, size);
-    leaf-at = λ i p. old i (omega (arith, w .long)) ∙ w .leaf-at i p;
-    earlier = λ i p q. elim (decLt i (length t)) [ yes g ↦ rw (old i g) (w .earlier i p g) | no g ↦ let z : i ≡ length t = omega (arith, size) in rw (z, last) (ready-below (length t) r h) ];
-    normal = λ i p q. elim (decLt i (length t)) [
-      yes g ↦ rw (old i g) (plan-kept t (t ++ (r ∷ [])) old (rowAt t i) (below-more i (length t) (rowAt t i) (omega arith) (w .earlier i p g)) ∙ w .normal i p g)
-      | no g ↦ let z : i ≡ length t = omega (arith, size) in rw (z, last) (plan-kept t (t ++ (r ∷ [])) old r (ready-below (length t) r h) ∙ e) ];
-    distinct = λ i j p q d. elim (decLt j (length t)) [
-      yes g ↦ w .distinct i j p g (sym (old i (omega arith)) ∙ d ∙ old j g)
-      | no g ↦ let z : j ≡ length t = omega (arith, size) in none i (omega arith) (sym (old i (omega arith)) ∙ d ∙ ap (rowAt (t ++ (r ∷ []))) z ∙ last) ] }
+      long = omega (arith, w .long, size);
+      leaf-at = λ i p. old i (omega (arith, w .long)) ∙ w .leaf-at i p;
+      earlier = λ i p q. elim (decLt i (length t)) [ yes g ↦ rw (old i g) (w .earlier i p g) | no g ↦ let z : i ≡ length t = omega (arith, size) in rw (z, last) (ready-below (length t) r h) ];
+      normal = λ i p q. elim (decLt i (length t)) [
+        | yes g ↦ rw (old i g) (plan-kept t (t ++ (r ∷ [])) old (rowAt t i) (below-more i (length t) (rowAt t i) (omega arith) (w .earlier i p g)) ∙ w .normal i p g)
+        | no g ↦ let z : i ≡ length t = omega (arith, size) in rw (z, last) (plan-kept t (t ++ (r ∷ [])) old r (ready-below (length t) r h) ∙ e)
+      ];
+      distinct = λ i j p q d. elim (decLt j (length t)) [
+        | yes g ↦ w .distinct i j p g (sym (old i (omega arith)) ∙ d ∙ old j g)
+        | no g ↦ let z : j ≡ length t = omega (arith, size) in none i (omega arith) (sym (old i (omega arith)) ∙ d ∙ ap (rowAt (t ++ (r ∷ []))) z ∙ last)
+      ];
+    }
   where
     size : length (t ++ (r ∷ [])) ≡ length t + 1
     size = length-append t (r ∷ [])
+
     old : (i : ℕ) → i < length t → rowAt (t ++ (r ∷ [])) i ≡ rowAt t i
     old i p = List·getD-append t (r ∷ []) (leaf 0) i p
+
     last : rowAt (t ++ (r ∷ [])) (length t) ≡ r
     last = getD-append-seam t r [] (leaf 0)
 
@@ -398,17 +408,20 @@ add-sound {C} {t} w r h = go (plan t r) (plan-right w r h)
   where
     put : (q : Row) → Right t r (make q) → Inserts t q → Sound C (settle t (make q)) (λ s. meaning t s r)
     put q g (stood a b c) = record {
-        canonical = rw a w;
-        low = rw a b;
-        val = λ s. rw a (canonical-value w s (find t q) b ∙ ap (meaning t s) c ∙ g .1 s) }
+      canonical = rw a w;
+      low = rw a b;
+      val = λ s. rw a (canonical-value w s (find t q) b ∙ ap (meaning t s) c ∙ g .1 s);
+    }
     put q g (fresh a b c) =
         let w′ : Canonical C (t ++ (q ∷ [])) = canonical-append w q (g .0) (g .2) c in
         let more : Ext t (t ++ (q ∷ [])) = record { more = q ∷ []; is = refl } in
         let below : Below (length t) q = ready-below (length t) q (g .0) in
         record {
-        canonical = rw a w′;
-        low = rw (a, b) (omega (arith, length-append t (q ∷ [])));
-        val = λ s. rw (a, b) (value-here t [] q s below ∙ ext-meaning more s q below ∙ g .1 s) }
+          canonical = rw a w′;
+          low = rw (a, b) (omega (arith, length-append t (q ∷ [])));
+          val = λ s. rw (a, b) (value-here t [] q s below ∙ ext-meaning more s q below ∙ g .1 s);
+        }
+
     go : (p : Plan) → Right t r p → Sound C (settle t p) (λ s. meaning t s r)
     go (have i) g = record { canonical = w; low = g .0; val = g .1 }
     go (make q) g = put q g (inserts t q)
@@ -416,17 +429,19 @@ add-sound {C} {t} w r h = go (plan t r) (plan-right w r h)
 -- The table before any operation is canonical.
 pub base-canonical : (C : ℕ) → Canonical C (base C)
 base-canonical C = record {
-    long = omega (arith, size);
-    leaf-at = at;
-    earlier = λ i p q. absurd (omega (arith, size));
-    normal = λ i p q. absurd (omega (arith, size));
-    distinct = λ i j p q d.
+  long = omega (arith, size);
+  leaf-at = at;
+  earlier = λ i p q. absurd (omega (arith, size));
+  normal = λ i p q. absurd (omega (arith, size));
+  distinct = λ i j p q d.
       let a : rowAt (base C) i ≡ leaf i = at i (omega (arith, size)) in
       let b : rowAt (base C) j ≡ leaf j = at j (omega (arith, size)) in
       let z : i ≡ j = cc in
-      omega arith }
+      omega arith;
+}
   where
     size : length (base C) ≡ 2 + C
     size = length-base C
+
     at : (i : ℕ) → i < 2 + C → rowAt (base C) i ≡ leaf i
     at i h = base-at C i h

@@ -45,6 +45,7 @@ planBin-made o a b p q = go (eqb a (absorbing o)) refl (eqb b (absorbing o)) ref
     never i e =
         let z : _≡_ {A = ℕ} 0 1 = cc in
         absurd (omega arith)
+
     go : (k : Bool) → eqb a (absorbing o) ≡ k → (l : Bool) → eqb b (absorbing o) ≡ l → (m : Bool) → eqb a (neutral o) ≡ m → (n : Bool) → eqb b (neutral o) ≡ n → (c : Bool) → eqb a b ≡ c
         → cond k (have a) (cond l (have b) (cond m (have b) (cond n (have a) (cond c (have a) (make (bin o (min a b) (max a b))))))) ≡ make (bin o a b) → (2 ≤ a) × (a < b)
     go true _ l _ m _ n _ c _ e = never a e
@@ -124,28 +125,34 @@ module _ {C : ℕ} (t : List Row) (x : List ℕ) (w : Canonical C t) where
       → ((p : ℕ) → length (m .tab) ≤ p → p < length u → (2 + C ≤ k) × (R k ≡ true) × (a ≡ p)) → length u ≤ 2 + C + (suc k - (2 + C))
       → Packed (suc k) (record { tab = u; new = m .new ++ (a ∷ []) })
   packed-step k m g h a u more place above fills small = record {
-      size = snoc-length (m .new) a k (g .size);
-      grown = ext-trans (g .grown) more;
-      placed = snoc-each (λ i n. R i ≡ true → Placed i n u (m .new ++ (a ∷ []))) (m .new) a k (g .size)
+    size = snoc-length (m .new) a k (g .size);
+    grown = ext-trans (g .grown) more;
+    placed = snoc-each (λ i n. R i ≡ true → Placed i n u (m .new ++ (a ∷ []))) (m .new) a k (g .size)
         (λ i l q. kept i (getD (m .new) i 0) (m .tab) (omega arith) more (g .placed i l q)) (λ q. kept k a u (omega arith) (ext-refl u) (place q));
-      rising = λ i j p l q r. elim (decLt j k) [
-        yes f ↦ rw (old i (omega arith), old j f) (g .rising i j p f q r)
-        | no f ↦ (let z : j ≡ k = omega arith in rw (z, last, old i (omega arith)) (above (rw z at r) i (omega arith) q)) ];
-      onto = λ p l f. elim (decLt p (length (m .tab))) [
-        yes c ↦ (let o = g .onto p l c in (o .0, omega arith, o .2, o .3, old (o .0) (o .1) ∙ o .4))
-        | no c ↦ (let o = fills p (omega arith) f in (k, omega arith, o .0, o .1, last ∙ o .2)) ];
-      few = small }
+    rising = λ i j p l q r. elim (decLt j k) [
+      | yes f ↦ rw (old i (omega arith), old j f) (g .rising i j p f q r)
+      | no f ↦ (let z : j ≡ k = omega arith in rw (z, last, old i (omega arith)) (above (rw z at r) i (omega arith) q))
+    ];
+    onto = λ p l f. elim (decLt p (length (m .tab))) [
+      | yes c ↦ (let o = g .onto p l c in (o .0, omega arith, o .2, o .3, old (o .0) (o .1) ∙ o .4))
+      | no c ↦ (let o = fills p (omega arith) f in (k, omega arith, o .0, o .1, last ∙ o .2))
+    ];
+    few = small;
+  }
     where
       old : (i : ℕ) → i < k → getD (m .new ++ (a ∷ [])) i 0 ≡ getD (m .new) i 0
       old = snoc-old (m .new) a k (g .size)
+
       last : getD (m .new ++ (a ∷ [])) k 0 ≡ a
       last = snoc-last (m .new) a k (g .size)
+
       kept : (i b : ℕ) (v : List Row) → i ≤ k → Ext v u → Placed i b v (m .new) → Placed i b u (m .new ++ (a ∷ []))
       kept i b v l e p = record {
-          leaves = p .leaves;
-          high = p .high;
-          low = omega (arith, p .low, ext-length e);
-          row = λ c. ext-row e b (p .low) ∙ p .row c ∙ sym (ren-kept (m .new) a k (rowAt t i) (g .size) (below-more i k (rowAt t i) l (below i (omega arith)))) }
+        leaves = p .leaves;
+        high = p .high;
+        low = omega (arith, p .low, ext-length e);
+        row = λ c. ext-row e b (p .low) ∙ p .row c ∙ sym (ren-kept (m .new) a k (rowAt t i) (g .size) (below-more i k (rowAt t i) l (below i (omega arith))));
+      }
 
   -- Every row keeps the packing.
   packed-row : (k : ℕ) (m : Carried) → Packed k m → k < length t → (b : Bool) → R k ≡ b → Packed (suc k) (carryRow append (unchanging C) m (rowAt t k) b)
@@ -160,10 +167,12 @@ module _ {C : ℕ} (t : List Row) (x : List ℕ) (w : Canonical C t) where
     where
       tall : 2 + C ≤ length (m .tab)
       tall = omega (arith, ext-length (g .grown), length-base C)
+
       as-leaf : k < 2 + C → Packed (suc k) (record { tab = m .tab; new = m .new ++ (k ∷ []) })
       as-leaf p = packed-step k m g h k (m .tab) (ext-refl (m .tab))
           (λ r. record { leaves = λ c. refl; high = λ c. c; low = omega (arith, tall); row = λ c. absurd (omega arith) })
           (λ r i l f. omega (arith, g .placed i l f .leaves (omega arith))) (λ p a b. absurd (omega arith)) (omega (arith, g .few))
+
       as-op : 2 + C ≤ k → Packed (suc k) (record { tab = m .tab ++ (ren (m .new) (rowAt t k) ∷ []); new = m .new ++ (length (m .tab) ∷ []) })
       as-op p =
           let r = ren (m .new) (rowAt t k) in
@@ -175,12 +184,13 @@ module _ {C : ℕ} (t : List Row) (x : List ℕ) (w : Canonical C t) where
   pub packed : (k : ℕ) → k ≤ length t → Packed k (carry append (base C) (unchanging C) t x k)
   unfolding carry
   packed zero h = record {
-      size = refl;
-      grown = ext-refl (base C);
-      placed = λ i p. absurd (omega arith);
-      rising = λ i j p l. absurd (omega arith);
-      onto = λ p l f. absurd (omega (arith, length-base C));
-      few = omega (arith, length-base C) }
+    size = refl;
+    grown = ext-refl (base C);
+    placed = λ i p. absurd (omega arith);
+    rising = λ i j p l. absurd (omega arith);
+    onto = λ p l f. absurd (omega (arith, length-base C));
+    few = omega (arith, length-base C);
+  }
   packed (suc k) h = packed-row k (carry append (base C) (unchanging C) t x k) (packed k (omega arith)) (omega arith) (R k) refl
 
   module _ (k : ℕ) (m : Carried) (g : Packed k m) (h : 2 + C ≤ k) (l : k < length t) (q : R k ≡ true) where
@@ -195,8 +205,9 @@ module _ {C : ℕ} (t : List Row) (x : List ℕ) (w : Canonical C t) where
 
     N-one : (a b : ℕ) → a < k → b < k → R a ≡ true → R b ≡ true → N a ≡ N b → a ≡ b
     N-one a b p f c d e = elim (decLt a b) [
-        yes z ↦ absurd (omega (arith, g .rising a b z f c d))
-        | no z ↦ elim (decLt b a) [ yes y ↦ absurd (omega (arith, g .rising b a y p d c)) | no y ↦ omega arith ] ]
+      | yes z ↦ absurd (omega (arith, g .rising a b z f c d))
+      | no z ↦ elim (decLt b a) [ yes y ↦ absurd (omega (arith, g .rising b a y p d c)) | no y ↦ omega arith ]
+    ]
 
     base-row : (i : ℕ) → i < 2 + C → rowAt (m .tab) i ≡ leaf i
     base-row i p = ext-row (g .grown) i (omega (arith, length-base C)) ∙ base-at C i p
@@ -204,8 +215,9 @@ module _ {C : ℕ} (t : List Row) (x : List ℕ) (w : Canonical C t) where
     -- Where row a is no NOT row, neither is its copy.
     no-inv : (a b : ℕ) → a < k → R a ≡ true → ((c : ℕ) → rowAt t a ≡ inv c → ⊥) → rowAt (m .tab) (N a) ≡ inv b → ⊥
     no-inv a b p c n e = elim (decLt a (2 + C)) [
-        yes f ↦ (let z : leaf a ≡ inv b = sym (base-row a f) ∙ ap (rowAt (m .tab)) (sym (g .placed a p c .leaves f)) ∙ e in let y : _≡_ {A = ℕ} 0 1 = cc in omega arith)
-        | no f ↦ copy (rowAt t a) refl (sym (g .placed a p c .row (omega arith)) ∙ e) ]
+      | yes f ↦ (let z : leaf a ≡ inv b = sym (base-row a f) ∙ ap (rowAt (m .tab)) (sym (g .placed a p c .leaves f)) ∙ e in let y : _≡_ {A = ℕ} 0 1 = cc in omega arith)
+      | no f ↦ copy (rowAt t a) refl (sym (g .placed a p c .row (omega arith)) ∙ e)
+    ]
       where
         copy : (r : Row) → rowAt t a ≡ r → ren (m .new) r ≡ inv b → ⊥
         copy (leaf i) d z =
@@ -253,6 +265,7 @@ module _ {C : ℕ} (t : List Row) (x : List ℕ) (w : Canonical C t) where
       where
         ready : Ready k (rowAt t k)
         ready = canonical-ready w k h l
+
         copied : (r : Row) → Ready k r → (i : ℕ) → leaf i ≡ ren (m .new) r → ⊥
         copied (leaf j) d i e = d
         copied (inv a) d i e =
@@ -261,13 +274,16 @@ module _ {C : ℕ} (t : List Row) (x : List ℕ) (w : Canonical C t) where
         copied (bin o a b) d i e =
             let y : _≡_ {A = ℕ} 0 1 = cc in
             omega arith
+
         none : (p : ℕ) → p < length (m .tab) → rowAt (m .tab) p ≡ ren (m .new) (rowAt t k) → ⊥
         none p f e = elim (decLt p (2 + C)) [
-            yes c ↦ copied (rowAt t k) ready p (sym (base-row p c) ∙ e)
-            | no c ↦ (let o = g .onto p (omega arith) f in
-            let at = g .placed (o .0) (o .1) (o .3) .row (o .2) in
-            w .distinct (o .0) k (o .1) l (copy-one (o .0) (o .1) (o .3) (rowAt t (o .0)) (rowAt t k) refl refl (canonical-ready w (o .0) (o .2) (omega (arith, o .1))) ready
-            (sym at ∙ ap (rowAt (m .tab)) (o .4) ∙ e))) ]
+          | yes c ↦ copied (rowAt t k) ready p (sym (base-row p c) ∙ e)
+          | no c ↦ (let o = g .onto p (omega arith) f in
+              let at = g .placed (o .0) (o .1) (o .3) .row (o .2) in
+              w .distinct (o .0) k (o .1) l (copy-one (o .0) (o .1) (o .3) (rowAt t (o .0)) (rowAt t k) refl refl (canonical-ready w (o .0) (o .2) (omega (arith, o .1))) ready
+              (sym at ∙ ap (rowAt (m .tab)) (o .4) ∙ e)))
+        ]
+
         put : Inserts (m .tab) (ren (m .new) (rowAt t k)) → settle (m .tab) (make (ren (m .new) (rowAt t k))) ≡ append (m .tab) (ren (m .new) (rowAt t k))
         put (stood a b c) = absurd (none (find (m .tab) (ren (m .new) (rowAt t k))) b c)
         put (fresh a b c) = λ i. record { tab = a i; row = b i }
@@ -281,11 +297,14 @@ module _ {C : ℕ} (t : List Row) (x : List ℕ) (w : Canonical C t) where
     where
       m : Carried
       m = carry append (base C) (unchanging C) t x k
+
       one : R k ≡ true → carryOne add (unchanging C) m (rowAt t k) ≡ carryOne append (unchanging C) m (rowAt t k)
       one q = elim (decLt k (2 + C)) [
-          yes p ↦ rw (w .leaf-at k p)
-          | no p ↦ (let r = canonical-ready w k (omega arith) (omega arith) in
-          carry-op add (unchanging C) m k (rowAt t k) r ∙ add-is-append k m (packed k (omega arith)) (omega arith) (omega arith) q ∙ sym (carry-op append (unchanging C) m k (rowAt t k) r)) ]
+        | yes p ↦ rw (w .leaf-at k p)
+        | no p ↦ (let r = canonical-ready w k (omega arith) (omega arith) in
+            carry-op add (unchanging C) m k (rowAt t k) r ∙ add-is-append k m (packed k (omega arith)) (omega arith) (omega arith) q ∙ sym (carry-op append (unchanging C) m k (rowAt t k) r))
+      ]
+
       go : (b : Bool) → R k ≡ b → carryRow add (unchanging C) m (rowAt t k) b ≡ carryRow append (unchanging C) m (rowAt t k) b
       go false q = refl
       go true q = ap (λ (a : Added). record { tab = a .tab; new = m .new ++ (a .row ∷ []) }) (one q)
@@ -295,11 +314,13 @@ module _ {C : ℕ} (t : List Row) (x : List ℕ) (w : Canonical C t) where
 pub unchanging-stands : (C : ℕ) → Stands C (over (base C) (unchanging C))
 unfolding unchanging
 unchanging-stands C = record {
-    canonical = base-canonical C;
-    count = length-from 2 C;
-    low = λ c. elim (decLt c C) [
-      yes h ↦ omega (arith, getD-from 2 C c 0 h, length-base C)
-      | no h ↦ (let p : length (from 2 C) ≤ c = omega (arith, length-from 2 C) in omega (arith, List·getD-eq-default (from 2 C) 0 p, length-base C)) ] }
+  canonical = base-canonical C;
+  count = length-from 2 C;
+  low = λ c. elim (decLt c C) [
+    | yes h ↦ omega (arith, getD-from 2 C c 0 h, length-base C)
+    | no h ↦ (let p : length (from 2 C) ≤ c = omega (arith, length-from 2 C) in omega (arith, List·getD-eq-default (from 2 C) 0 p, length-base C))
+  ];
+}
 
 -- The unchanging set changes nothing.
 pub unchanging-acts : (C : ℕ) (s : List Bool) → length s ≡ C → act (base C) (unchanging C) s ≡ s
@@ -308,6 +329,7 @@ unchanging-acts C s e = ext-getD false (map (value (base C) s) (from 2 C)) s (le
   where
     w : Canonical C (base C)
     w = base-canonical C
+
     at : (c : ℕ) → c < length (map (value (base C) s) (from 2 C)) → getD (map (value (base C) s) (from 2 C)) c false ≡ getD s c false
     at c h =
         let p : c < C = omega (arith, length-map (from 2 C) (value (base C) s), length-from 2 C) in

@@ -40,17 +40,19 @@ module _ (P : Program) where
   does-go : (i l : ℕ) (s s₁ s′ : List Bool) → i < l → l < n → ((r : List ℕ) → step P (due i s r) ≡ due l s₁ r) → Does P l s₁ s′ → Does P i s s′
   unfolding run
   does-go i l s s₁ s′ h g e d = record {
-      steps = suc (d .steps);
-      few = omega (arith, d .few, half i l h (omega arith), pow-mono {i = 0} {j = n - l} (omega arith));
-      runs = λ r. ap (run P (d .steps)) (e r) ∙ d .runs r }
+    steps = suc (d .steps);
+    few = omega (arith, d .few, half i l h (omega arith), pow-mono {i = 0} {j = n - l} (omega arith));
+    runs = λ r. ap (run P (d .steps)) (e r) ∙ d .runs r;
+  }
 
   -- An instruction that calls a later one and comes back to the next.
   does-call : (i l : ℕ) (s s₁ s′ : List Bool) → i < l → l < n → ((r : List ℕ) → step P (due i s r) ≡ due l s (suc i ∷ r)) → Does P l s s₁ → Does P (suc i) s₁ s′ → Does P i s s′
   unfolding run
   does-call i l s s₁ s′ h g e d d′ = record {
-      steps = suc (d .steps + d′ .steps);
-      few = omega (arith, d .few, d′ .few, half i (suc i) (omega arith) (omega arith), pow-mono {i = n - l} {j = n - suc i} (omega arith));
-      runs = λ r. ap (run P (d .steps + d′ .steps)) (e r) ∙ run-add P (d .steps) (d′ .steps) (due l s (suc i ∷ r)) ∙ ap (run P (d′ .steps)) (d .runs (suc i ∷ r)) ∙ d′ .runs r }
+    steps = suc (d .steps + d′ .steps);
+    few = omega (arith, d .few, d′ .few, half i (suc i) (omega arith) (omega arith), pow-mono {i = n - l} {j = n - suc i} (omega arith));
+    runs = λ r. ap (run P (d .steps + d′ .steps)) (e r) ∙ run-add P (d .steps) (d′ .steps) (due l s (suc i ∷ r)) ∙ ap (run P (d′ .steps)) (d .runs (suc i ∷ r)) ∙ d′ .runs r;
+  }
 
   -- An instruction that comes back at once.
   does-end : (i : ℕ) (s s′ : List Bool) → i < n → ((r : List ℕ) → step P (due i s r) ≡ back s′ r) → Does P i s s′
@@ -97,26 +99,30 @@ module _ (P : Program) where
         let y = m .stands (suc i) (omega arith) (f .1) in
         let A = after-acts (o .tab) (o .heads) (o .tab) (T (suc i)) (O .stands) (stands-ext (O .stands .canonical) (grown-ext (own-grown (b .tab) sh p)) (T (suc i)) y) in
         record {
-        stands = A .stands;
-        does = λ s. does-to i s _ _ (sym (A .val s ∙ ap (act (o .tab) (T (suc i))) (O .val s) ∙ act-kept (grown-ext (own-grown (b .tab) sh p)) (T (suc i)) y (perform sh p s)))
-        (does-go i (suc i) s (perform sh p s) _ (omega arith) (f .1) (at (plain p) e s) (m .does (suc i) (omega arith) (f .1) (perform sh p s))) }
+          stands = A .stands;
+          does = λ s. does-to i s _ _ (sym (A .val s ∙ ap (act (o .tab) (T (suc i))) (O .val s) ∙ act-kept (grown-ext (own-grown (b .tab) sh p)) (T (suc i)) y (perform sh p s)))
+              (does-go i (suc i) s (perform sh p s) _ (omega arith) (f .1) (at (plain p) e s) (m .does (suc i) (omega arith) (f .1) (perform sh p s)));
+        }
     turned (JP l) e f = record {
-        stands = m .stands l (f .0) (f .1);
-        does = λ s. does-go i l s s _ (f .0) (f .1) (at (JP l) e s) (m .does l (f .0) (f .1) s) }
+      stands = m .stands l (f .0) (f .1);
+      does = λ s. does-go i l s s _ (f .0) (f .1) (at (JP l) e s) (m .does l (f .0) (f .1) s);
+    }
     turned (JPC l) e f =
         let A = choice-acts (b .tab) (rowOfCell (flag sh)) (T l) (T (suc i)) (omega (arith, m .canonical .long)) (m .stands l (f .0) (f .1)) (m .stands (suc i) (omega arith) (omega arith)) in
         record {
-        stands = A .stands;
-        does = λ s. does-to i s _ _ (sym (A .val s ∙ ap (λ c. cond c (act (b .tab) (T l) s) (act (b .tab) (T (suc i)) s)) (flag-value (b .tab) (m .canonical) s)))
-        (by-flag s _ _ (getD s (flag sh) false)
-        (λ q. does-go i l s s _ (f .0) (f .1) (λ r. at (JPC l) e s r ∙ rw q) (m .does l (f .0) (f .1) s))
-        (λ q. does-go i (suc i) s s _ (omega arith) (omega arith) (λ r. at (JPC l) e s r ∙ rw q) (m .does (suc i) (omega arith) (omega arith) s))) }
+          stands = A .stands;
+          does = λ s. does-to i s _ _ (sym (A .val s ∙ ap (λ c. cond c (act (b .tab) (T l) s) (act (b .tab) (T (suc i)) s)) (flag-value (b .tab) (m .canonical) s)))
+              (by-flag s _ _ (getD s (flag sh) false)
+              (λ q. does-go i l s s _ (f .0) (f .1) (λ r. at (JPC l) e s r ∙ rw q) (m .does l (f .0) (f .1) s))
+              (λ q. does-go i (suc i) s s _ (omega arith) (omega arith) (λ r. at (JPC l) e s r ∙ rw q) (m .does (suc i) (omega arith) (omega arith) s)));
+        }
     turned (JS l) e f =
         let A = after-acts (b .tab) (T l) (b .tab) (T (suc i)) (m .stands l (f .0) (f .1)) (m .stands (suc i) (omega arith) (omega arith)) in
         record {
-        stands = A .stands;
-        does = λ s. does-to i s _ _ (sym (A .val s))
-        (does-call i l s _ _ (f .0) (f .1) (at (JS l) e s) (m .does l (f .0) (f .1) s) (m .does (suc i) (omega arith) (omega arith) (act (b .tab) (T l) s))) }
+          stands = A .stands;
+          does = λ s. does-to i s _ _ (sym (A .val s))
+              (does-call i l s _ _ (f .0) (f .1) (at (JS l) e s) (m .does l (f .0) (f .1) s) (m .does (suc i) (omega arith) (omega arith) (act (b .tab) (T l) s)));
+        }
     turned (JSC l) e f =
         let a = after (b .tab) (T l) (b .tab) (T (suc i)) in
         let y = m .stands (suc i) (omega arith) (omega arith) in
@@ -125,11 +131,12 @@ module _ (P : Program) where
         let w = B .stands .canonical in
         let A = choice-acts (a .tab) (rowOfCell (flag sh)) (a .heads) (T (suc i)) (omega (arith, w .long)) (B .stands) (stands-ext w more (T (suc i)) y) in
         record {
-        stands = A .stands;
-        does = λ s. does-to i s _ _ (sym (A .val s ∙ cc (flag-value (a .tab) w s, B .val s, act-kept more (T (suc i)) y s)))
-        (by-flag s _ _ (getD s (flag sh) false)
-        (λ q. does-call i l s _ _ (f .0) (f .1) (λ r. at (JSC l) e s r ∙ rw q) (m .does l (f .0) (f .1) s) (m .does (suc i) (omega arith) (omega arith) (act (b .tab) (T l) s)))
-        (λ q. does-go i (suc i) s s _ (omega arith) (omega arith) (λ r. at (JSC l) e s r ∙ rw q) (m .does (suc i) (omega arith) (omega arith) s))) }
+          stands = A .stands;
+          does = λ s. does-to i s _ _ (sym (A .val s ∙ cc (flag-value (a .tab) w s, B .val s, act-kept more (T (suc i)) y s)))
+              (by-flag s _ _ (getD s (flag sh) false)
+              (λ q. does-call i l s _ _ (f .0) (f .1) (λ r. at (JSC l) e s r ∙ rw q) (m .does l (f .0) (f .1) s) (m .does (suc i) (omega arith) (omega arith) (act (b .tab) (T l) s)))
+              (λ q. does-go i (suc i) s s _ (omega arith) (omega arith) (λ r. at (JSC l) e s r ∙ rw q) (m .does (suc i) (omega arith) (omega arith) s)));
+        }
     turned END e f =
         let O = own-acts (b .tab) sh (wf .deep) (m .canonical) INIT tt in
         record { stands = O .stands; does = λ s. does-to i s _ _ (sym (O .val s)) (does-end i s (perform sh INIT s) i<n (at END e s)) }
@@ -142,16 +149,20 @@ module _ (P : Program) where
         let t = turned x refl (wf .fine i i<n) in
         let more = grown-ext (turnHeads-grown sh i x b) in
         record {
-        canonical = t .stands .canonical;
-        stands = λ l h g. elim (decLt i l) [
-          yes p ↦ rw (past l p) (stands-ext (t .stands .canonical) more (T l) (m .stands l p g))
-          | no p ↦ (let z : l ≡ i = omega arith in rw (z, sub-self) (t .stands)) ];
-        does = λ l h g s. elim (decLt i l) [
-          yes p ↦ rw (past l p, act-kept more (T l) (m .stands l p g) s) (m .does l p g s)
-          | no p ↦ (let z : l ≡ i = omega arith in rw (z, sub-self) (t .does s)) ] }
+          canonical = t .stands .canonical;
+          stands = λ l h g. elim (decLt i l) [
+            | yes p ↦ rw (past l p) (stands-ext (t .stands .canonical) more (T l) (m .stands l p g))
+            | no p ↦ (let z : l ≡ i = omega arith in rw (z, sub-self) (t .stands))
+          ];
+          does = λ l h g s. elim (decLt i l) [
+            | yes p ↦ rw (past l p, act-kept more (T l) (m .stands l p g) s) (m .does l p g s)
+            | no p ↦ (let z : l ≡ i = omega arith in rw (z, sub-self) (t .does s))
+          ];
+        }
       where
         past : (l : ℕ) → i < l → l - i ≡ suc (l - suc i)
         past l p = omega arith
+
         sub-self : i - i ≡ 0
         sub-self = omega arith
 

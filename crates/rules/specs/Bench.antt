@@ -1,23 +1,23 @@
 -- The bench examples: one table of what is done and what it must give, and one theorem over it, by computing.
-use Prim.Native.Nat.{ℕ, zero, suc, _+_, _*_}
+use Prim.Native.Nat.{ℕ, zero, suc}
 use mathlib.Core.Path.{_≡_, refl}
-use mathlib.Core.Bool.{Bool, true, false}
+use mathlib.Core.Bool.{true, false}
 use mathlib.Core.List.{List, [], _∷_, _++_, map, flatMap, zipWith, zip}
-use lib.ListN.{length, take, set}
+use lib.ListN.{take, set}
 use Rattle.rules.specs.Verdict.{Verdict, granted, refused, _>>=_}
 use Rattle.rules.specs.Lists.{numberAt, bytesOf, from, elem, seek}
 use Rattle.rules.specs.Edition.{old}
 use Rattle.rules.specs.Shape.{Shape, shapeAt, readHeader, writeHeader}
 use Rattle.rules.specs.Expr.{Exp, con, cell, neg, bin, eval, announced, readExpr, writeExpr}
-use Rattle.rules.specs.Instr.{Plain, INIT, NOT, TAND, TOR, PUSH, POP, DROP, DUP, FSWP, ESWP, LOAD, AND, OR, EPUSH, STORE, SET, RES, REDGE, FEDGE, put, stack, pushed, popped, effect, effects}
+use Rattle.rules.specs.Instr.{TAND, PUSH, POP, DUP, LOAD, EPUSH, STORE, SET, REDGE, put, stack, pushed, popped, effect, effects}
 use Rattle.rules.specs.Instr.{Instr, plain, JP, JPC, JS, JSC, END}
-use Rattle.rules.specs.ProgramFile.{Program, formOf, readInstr, readInstrs, readProgram, bodyOf, entries, writeProgram}
+use Rattle.rules.specs.ProgramFile.{formOf, readInstr, readInstrs, readProgram, bodyOf, entries, writeProgram}
 use Rattle.rules.specs.Machine.{perform, scanFrom}
 use Rattle.rules.specs.Rows.{base, values, value, planBin, find, insert}
 use Rattle.rules.specs.Sets.{act, unchanging, needs, carry, after, squeeze, fourRows, choose, each, choice}
 use Rattle.rules.specs.Build.{addExp, own, turn, turns, transfer}
 use Rattle.rules.specs.SetFile.{writeSet, rowOf, spelt, allBelow, fits, named, checkRows, readSet}
-use Rattle.rules.specs.Operations.{storageBytes, checkStorage, scan, setOf, writeInto, finish, build, evaluate, compose, programSet, writeUnchanging}
+use Rattle.rules.specs.Operations.{storageBytes, checkStorage, scan, setOf, writeInto, finish, build, evaluate, compose, writeUnchanging}
 use Rattle.rules.specs.Lines.{digits, line, setText}
 
 -- what is done, on files, storages, a shape, and so much lent

@@ -1,8 +1,8 @@
 -- Building: an instruction's own set, and T(i) from the last instruction up.
-use Prim.Native.Nat.{ℕ, zero, suc, _+_, _-_}
-use mathlib.Core.Bool.{Bool, true, false, cond}
-use mathlib.Core.List.{List, [], _∷_, _++_, map}
-use lib.ListN.{length, getD}
+use Prim.Native.Nat.{ℕ, suc, _-_}
+use mathlib.Core.Bool.{cond}
+use mathlib.Core.List.{List, [], _∷_}
+use lib.ListN.{getD}
 use Rattle.rules.specs.Shape.{Shape, flag, cells}
 use Rattle.rules.specs.Expr.{Exp, con, cell, neg, bin}
 use Rattle.rules.specs.Instr.{Plain, INIT, effects, Instr, plain, JP, JPC, JS, JSC, END}

@@ -1,10 +1,10 @@
 -- Boolean expressions over cells: what they mean, and their bytes.
-use Prim.Native.Nat.{ℕ, zero, suc, _+_}
+use Prim.Native.Nat.{ℕ, zero, suc}
 use mathlib.Core.Bool.{Bool, true, false, not, cond, _&&_, _||_}
 use mathlib.Core.List.{List, [], _∷_, _++_}
 use lib.ListN.{length, getD}
 use lib.Dec.{leb, ltb, eqb}
-use Rattle.rules.specs.Verdict.{Verdict, granted, refused, _>>=_, refuseIf}
+use Rattle.rules.specs.Verdict.{Verdict, granted, refused, refuseIf}
 
 -- R13: a constant, a cell, a negation, or AND (true) or OR (false) of two.
 pub data Exp : Type 0 where

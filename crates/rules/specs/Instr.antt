@@ -1,6 +1,6 @@
 -- Instructions, and the one table of what they do to the cells (Tables 3.7 and 3.8 of the thesis).
 use Prim.Native.Nat.{ℕ, suc, _+_, _-_}
-use mathlib.Core.Bool.{Bool, true, false, cond}
+use mathlib.Core.Bool.{true, false, cond}
 use mathlib.Core.List.{List, map}
 use lib.Dec.{ltb, eqb}
 use Rattle.rules.specs.Lists.{from}

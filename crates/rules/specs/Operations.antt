@@ -1,10 +1,10 @@
 -- The operations on bytes and lent room: what each answers, refusals in their order, and what room each needs.
 use Prim.Native.Nat.{ℕ, _+_, _-_, _*_, min}
 use mathlib.Core.Bool.{Bool, true, false, not, _&&_, _||_}
-use mathlib.Core.List.{List, [], _∷_, map}
+use mathlib.Core.List.{List, map}
 use lib.ListN.{length, getD}
 use lib.Dec.{ltb, eqb}
-use Rattle.rules.specs.Verdict.{Verdict, granted, refused, _>>=_, refuseIf}
+use Rattle.rules.specs.Verdict.{Verdict, granted, refused, refuseIf}
 use Rattle.rules.specs.Lists.{refuseFirst}
 use Rattle.rules.specs.Edition.{Edition, mostRows}
 use Rattle.rules.specs.Shape.{Shape, cells, checkShape}

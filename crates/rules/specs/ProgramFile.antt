@@ -1,10 +1,10 @@
 -- Program files: reading, in the order in which the rules refuse, and writing.
 use Prim.Native.Nat.{ℕ, zero, suc, _+_, _-_, _*_}
-use mathlib.Core.Bool.{Bool, true, false, not, _&&_, _||_}
-use mathlib.Core.List.{List, [], _∷_, _++_, map, flatMap}
+use mathlib.Core.Bool.{Bool, true, false, not, _&&_}
+use mathlib.Core.List.{List, [], _∷_, _++_, flatMap}
 use lib.ListN.{length, getD}
 use lib.Dec.{leb, ltb, eqb}
-use Rattle.rules.specs.Verdict.{Verdict, granted, refused, _>>=_, refuseIf}
+use Rattle.rules.specs.Verdict.{Verdict, granted, refused, refuseIf}
 use Rattle.rules.specs.Lists.{numberAt, bytesOf, orElse}
 use Rattle.rules.specs.Edition.{Edition, countAt, headerEnd, mostInstrs}
 use Rattle.rules.specs.Shape.{Shape, vars, readHeader, writeHeader}

@@ -1,5 +1,5 @@
 -- Sets over a table: evaluating, reaching, one after another, choosing, and the set in its own numbering.
-use Prim.Native.Nat.{ℕ, zero, suc, _+_}
+use Prim.Native.Nat.{ℕ, zero, suc}
 use mathlib.Core.Bool.{Bool, true, false, cond}
 use mathlib.Core.List.{List, [], _∷_, _++_, map, zip}
 use lib.ListN.{length, getD}

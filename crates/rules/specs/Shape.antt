@@ -1,10 +1,10 @@
 -- Cells and shape, and the header that carries a shape in both kinds of file.
 use Prim.Native.Nat.{ℕ, _+_}
-use mathlib.Core.Bool.{Bool, not, _&&_}
-use mathlib.Core.List.{List, [], _∷_, _++_}
+use mathlib.Core.Bool.{not, _&&_}
+use mathlib.Core.List.{List, _∷_, _++_}
 use lib.ListN.{length, getD}
 use lib.Dec.{leb, ltb, eqb}
-use Rattle.rules.specs.Verdict.{Verdict, granted, refused, _>>=_, refuseIf}
+use Rattle.rules.specs.Verdict.{Verdict, granted, refuseIf}
 use Rattle.rules.specs.Lists.{numberAt, bytesOf}
 use Rattle.rules.specs.Edition.{Edition, headerEnd}
 
