@@ -4,7 +4,7 @@ use mathlib.Core.Bool.{Bool, true, false, not, cond, _&&_, _||_}
 use mathlib.Core.List.{List, [], _∷_, _++_}
 use lib.ListN.{length, getD}
 use lib.Dec.{leb, ltb, eqb}
-use Rattle.rules.specs.Verdict.{Verdict, granted, refused, refuseIf}
+use Rattle.rules.specs.Verdict.{Verdict, granted, refused, refuseIf, _>>=_}
 
 -- R13: a constant, a cell, a negation, or AND (true) or OR (false) of two.
 pub data Exp : Type 0 where

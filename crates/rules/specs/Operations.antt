@@ -4,7 +4,7 @@ use mathlib.Core.Bool.{Bool, true, false, not, _&&_, _||_}
 use mathlib.Core.List.{List, map}
 use lib.ListN.{length, getD}
 use lib.Dec.{ltb, eqb}
-use Rattle.rules.specs.Verdict.{Verdict, granted, refused, refuseIf}
+use Rattle.rules.specs.Verdict.{Verdict, granted, refused, refuseIf, _>>=_}
 use Rattle.rules.specs.Lists.{refuseFirst}
 use Rattle.rules.specs.Edition.{Edition, mostRows}
 use Rattle.rules.specs.Shape.{Shape, cells, checkShape}

@@ -4,7 +4,7 @@ use mathlib.Core.Bool.{Bool, true, false, not, _&&_}
 use mathlib.Core.List.{List, [], _∷_, _++_, flatMap}
 use lib.ListN.{length, getD}
 use lib.Dec.{leb, ltb, eqb}
-use Rattle.rules.specs.Verdict.{Verdict, granted, refused, refuseIf}
+use Rattle.rules.specs.Verdict.{Verdict, granted, refused, refuseIf, _>>=_}
 use Rattle.rules.specs.Lists.{numberAt, bytesOf, orElse}
 use Rattle.rules.specs.Edition.{Edition, countAt, headerEnd, mostInstrs}
 use Rattle.rules.specs.Shape.{Shape, vars, readHeader, writeHeader}

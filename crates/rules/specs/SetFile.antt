@@ -4,7 +4,7 @@ use mathlib.Core.Bool.{Bool, true, false, cond, not, _&&_}
 use mathlib.Core.List.{List, [], _∷_, _++_, map, flatMap}
 use lib.ListN.{length, getD, drop}
 use lib.Dec.{leb, ltb, eqb}
-use Rattle.rules.specs.Verdict.{Verdict, granted, refuseIf}
+use Rattle.rules.specs.Verdict.{Verdict, granted, refuseIf, _>>=_}
 use Rattle.rules.specs.Lists.{numberAt, bytesOf, from, elem, refuseFirst}
 use Rattle.rules.specs.Edition.{Edition, countAt, headerEnd, mostRows}
 use Rattle.rules.specs.Shape.{Shape, cells, readHeader, writeHeader}

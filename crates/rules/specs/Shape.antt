@@ -4,7 +4,7 @@ use mathlib.Core.Bool.{not, _&&_}
 use mathlib.Core.List.{List, _∷_, _++_}
 use lib.ListN.{length, getD}
 use lib.Dec.{leb, ltb, eqb}
-use Rattle.rules.specs.Verdict.{Verdict, granted, refuseIf}
+use Rattle.rules.specs.Verdict.{Verdict, granted, refuseIf, _>>=_}
 use Rattle.rules.specs.Lists.{numberAt, bytesOf}
 use Rattle.rules.specs.Edition.{Edition, headerEnd}
 
