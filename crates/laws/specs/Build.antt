@@ -15,7 +15,7 @@ use Rattle.rules.specs.Instr.{Instr, plain, JP, JPC, JS, JSC, END, put, keep, s
 use Rattle.rules.specs.Machine.{perform}
 use Rattle.rules.specs.Rows.{Row, inv, rowOfCell, value}
 use Rattle.rules.specs.Sets.{after}
-use Rattle.rules.specs.Build.{addExp, own, Built, setAt, turnHeads}
+use Rattle.rules.specs.Build.{addExp, own, turnHeads}
 use Rattle.laws.specs.Lists.{length-from}
 use Rattle.laws.specs.Canonical.{Canonical, Over, Names}
 use Rattle.laws.specs.Rows.{cell-value, ext-refl, ext-length, ext-value, zero-is, one-is, Grown, bare, plus, grown-trans, grown-ext, Sound, add-sound}
@@ -135,14 +135,14 @@ own-acts t sh d w p n =
 
 -- ---- tables only grow
 
-pub turnHeads-grown : (sh : Shape) (i : ℕ) (x : Instr) (b : Built) → Grown (b .tab) (turnHeads sh i x b .tab)
-turnHeads-grown sh i (plain p) b =
-    let o = own (b .tab) sh p in
-    grown-trans (own-grown (b .tab) sh p) (after-grown (o .tab) (o .heads) (o .tab) (setAt b (suc i) (suc i)))
-turnHeads-grown sh i (JP l) b = bare (b .tab)
-turnHeads-grown sh i (JPC l) b = choice-grown (b .tab) (rowOfCell (flag sh)) (setAt b (suc i) l) (setAt b (suc i) (suc i))
-turnHeads-grown sh i (JS l) b = after-grown (b .tab) (setAt b (suc i) l) (b .tab) (setAt b (suc i) (suc i))
-turnHeads-grown sh i (JSC l) b =
-    let a = after (b .tab) (setAt b (suc i) l) (b .tab) (setAt b (suc i) (suc i)) in
-    grown-trans (after-grown (b .tab) (setAt b (suc i) l) (b .tab) (setAt b (suc i) (suc i))) (choice-grown (a .tab) (rowOfCell (flag sh)) (a .heads) (setAt b (suc i) (suc i)))
-turnHeads-grown sh i END b = own-grown (b .tab) sh INIT
+pub turnHeads-grown : (sh : Shape) (i : ℕ) (x : Instr) (t : List Row) (T : ℕ → List ℕ) → Grown t (turnHeads sh i x t T .tab)
+turnHeads-grown sh i (plain p) t T =
+    let o = own t sh p in
+    grown-trans (own-grown t sh p) (after-grown (o .tab) (o .heads) (o .tab) (T (suc i)))
+turnHeads-grown sh i (JP l) t T = bare t
+turnHeads-grown sh i (JPC l) t T = choice-grown t (rowOfCell (flag sh)) (T l) (T (suc i))
+turnHeads-grown sh i (JS l) t T = after-grown t (T l) t (T (suc i))
+turnHeads-grown sh i (JSC l) t T =
+    let a = after t (T l) t (T (suc i)) in
+    grown-trans (after-grown t (T l) t (T (suc i))) (choice-grown (a .tab) (rowOfCell (flag sh)) (a .heads) (T (suc i)))
+turnHeads-grown sh i END t T = own-grown t sh INIT

@@ -1,5 +1,5 @@
 -- The laws of whole operations: what building and composing write is accepted, evaluating it is what the machine leaves, and the unchanging set gives back bytes.
-use Prim.Native.Nat.{ℕ, _+_, _-_, _*_, _^_, _≤_}
+use Prim.Native.Nat.{ℕ, _+_, _-_, _^_, _≤_}
 use mathlib.Core.Path.{_≡_, sym, ap, _∙_}
 use mathlib.Core.Bool.{Bool, true, not, _||_}
 use mathlib.Core.List.{List, []}
@@ -17,7 +17,8 @@ use Rattle.rules.specs.Machine.{due, stopped, run, Scanned, scanProgram}
 use Rattle.rules.specs.Sets.{Heads}
 use Rattle.rules.specs.Build.{transfer}
 use Rattle.rules.specs.SetFile.{TransferSet, leaves, writeSet, readSet}
-use Rattle.rules.specs.Operations.{checkStorage, scan, evaluateSet, setOf, programSet, composed, composeSets, unchangingSet, room, writeInto, finish, build, evaluate, sameShape, compose}
+use Rattle.rules.specs.Room.{room, numbersToBuild, headsToBuild, numbersToCompose, valuesToEvaluate}
+use Rattle.rules.specs.Operations.{checkStorage, scan, evaluateSet, setOf, programSet, composed, composeSets, unchangingSet, writeInto, finish, build, evaluate, sameShape, compose}
 use Rattle.laws.specs.Verdict.{bind-granted, check-granted, both-true, Grants, grants, grants-of, grants-check}
 use Rattle.laws.specs.Canonical.{Sensible, Proper, WellFormed}
 use Rattle.laws.specs.Bytes.{Bytes}
@@ -54,7 +55,7 @@ pub build-accepted : (e : Edition) → Sensible e → (file : List ℕ) (rows nu
 unfolding build
 build-accepted e s file rows numbers heads out P bytes p q =
     let c = check-granted (ltb rows (leaves (P .shape))) 10 0 _ (rw p at q) in
-    let d = check-granted (ltb numbers (room rows) || ltb heads (length (P .instrs) * cells (P .shape))) 10 0 _ (c .1) in
+    let d = check-granted (ltb numbers (numbersToBuild rows) || ltb heads (headsToBuild P)) 10 0 _ (c .1) in
     finish-read e s (P .shape) rows out (transfer P) bytes (transfer-stands P (read-wellformed e file P p)) (read-shape e file P p) (d .1)
 
 -- Shapes that are found to be the same are equal.
@@ -81,7 +82,7 @@ unfolding compose
 compose-accepted e s first second rows numbers out X Y bytes x y q =
     let c = check-granted (not (sameShape (X .shape) (Y .shape))) 12 0 _ (rw (x, y) at q) in
     let d = check-granted (ltb rows (length (X .tab))) 10 0 _ (c .1) in
-    let f = check-granted (ltb numbers (length (X .tab) + (length (Y .tab) - leaves (X .shape)))) 10 0 _ (d .1) in
+    let f = check-granted (ltb numbers (numbersToCompose X Y)) 10 0 _ (d .1) in
     let same : X .shape ≡ Y .shape = same-shape (X .shape) (Y .shape) (not-false (sameShape (X .shape) (Y .shape)) (c .0)) in
     let w = read-proper e first X x in
     let H = composed-stands X Y same (proper-whole w) (proper-whole (read-proper e second Y y)) in
@@ -128,7 +129,7 @@ evaluate-value : (e : Edition) (file storage : List ℕ) (lent : ℕ) (z : Trans
     → checkStorage (cells (z .shape)) storage ≡ granted s → evaluate e file storage lent ≡ granted v → v ≡ evaluateSet z s
 unfolding evaluate
 evaluate-value e file storage lent z s v r c q =
-    let f = check-granted (ltb lent (length (z .tab))) 10 0 (λ _. granted (evaluateSet z s)) (rw (r, c) at q) in
+    let f = check-granted (ltb lent (valuesToEvaluate z)) 10 0 (λ _. granted (evaluateSet z s)) (rw (r, c) at q) in
     cc
 
 -- The same of files: where a program is built, evaluating the file written gives the storage that a granted scan leaves.

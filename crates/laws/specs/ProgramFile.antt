@@ -16,7 +16,7 @@ use Rattle.rules.specs.Shape.{Shape, vars, checkShape, readHeader}
 use Rattle.rules.specs.Expr.{Exp, Read, Announced, leaf, one, two, bad, announced, readOperands, readExpr}
 use Rattle.rules.specs.Instr.{Instr, END}
 use Rattle.rules.specs.ProgramFile.{Program, Form, alone, withExpr, withVar, withLabel, unknown, codes, formOf, isEnd}
-use Rattle.rules.specs.ProgramFile.{entryAt, readOperand, readInstr, readInstrs, readProgram}
+use Rattle.rules.specs.ProgramFile.{entryAt, readBody, readInstr, readInstrs, readProgram}
 use Rattle.laws.specs.Verdict.{Grants, grants, refuses, grants-of, grants-self, grants-bind, grants-check, grants-within}
 use Rattle.laws.specs.Shape.{shape-limits, header-granted}
 use Rattle.laws.specs.Canonical.{Over, Names, Fine, WellFormed}
@@ -94,23 +94,23 @@ form-good {v = v} (more {c = k} {x = x} {l = l} g h) c = go (eqb k c) (form-good
     go false rest = rest
 
 -- An instruction of a good form is well formed, because its operand was checked.
-operand-placed : (e : Edition) (file : List ℕ) (sh : Shape) (n i p : ℕ) (x : Form) → Good (vars sh) x
-    → Grants (λ r. Placed (vars sh) n i (r .got)) (readOperand e file sh n i p x)
-operand-placed e file sh n i p (alone x) h = grants (h n i)
-operand-placed e file sh n i p (withExpr g) h =
-    grants-bind (expr-over (e .mostExpr) file (vars sh) (p + e .mostExpr) p) λ x o.
+body-placed : (e : Edition) (file : List ℕ) (sh : Shape) (n i p : ℕ) (x : Form) → Good (vars sh) x
+    → Grants (λ r. Placed (vars sh) n i (r .got)) (readBody e file sh n i p x)
+body-placed e file sh n i p (alone x) h = grants (h n i)
+body-placed e file sh n i p (withExpr g) h =
+    grants-bind (expr-over (e .mostExpr) file (vars sh) (suc p + e .mostExpr) (suc p)) λ x o.
     grants λ l. (h (x .got) o, l refl)
-operand-placed e file sh n i p (withVar g) h =
-    let b = getD file p 0 in
-    grants-check (leb (length file) p) _ _ _ λ _.
+body-placed e file sh n i p (withVar g) h =
+    let b = getD file (suc p) 0 in
+    grants-check (leb (length file) (suc p)) _ _ _ λ _.
     grants-within (sh .inputs) b (suc b) (vars sh) _ _ _ λ _ k.
     grants λ l. (h b k, l refl)
-operand-placed e file sh n i p (withLabel g) h =
-    let t = numberAt 2 file p in
-    grants-check (ltb (length file) (p + 2)) _ _ _ λ _.
+body-placed e file sh n i p (withLabel g) h =
+    let t = numberAt 2 file (suc p) in
+    grants-check (ltb (length file) (suc p + 2)) _ _ _ λ _.
     grants-within (suc i) t (suc t) n _ _ _ λ a b.
     grants λ l. h n i t a b
-operand-placed e file sh n i p unknown h = refuses
+body-placed e file sh n i p unknown h = refuses
 
 -- Instructions numbered from i up to n, each well formed.
 record Laid (v n i : ℕ) (xs : List Instr) : Type 0 where
@@ -132,7 +132,7 @@ unfolding readInstr
 instr-placed e file sh n i p =
     grants-check (not (eqb (entryAt e n + numberAt 2 file (entryAt e i)) p)) _ _ _ λ _.
     grants-check (leb (length file) p) _ _ _ λ _.
-    operand-placed e file sh n i (suc p) (formOf codes (getD file p 0)) (form-good (codes-good (vars sh)) (getD file p 0))
+    body-placed e file sh n i p (formOf codes (getD file p 0)) (form-good (codes-good (vars sh)) (getD file p 0))
 
 -- The last k instructions of n are those from i on, and each is well formed.
 instrs-laid : (e : Edition) (file : List ℕ) (sh : Shape) (n k i p : ℕ) → i + k ≡ n

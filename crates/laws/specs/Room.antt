@@ -9,7 +9,7 @@ use Rattle.rules.specs.Shape.{Shape, cells}
 use Rattle.rules.specs.Instr.{Instr}
 use Rattle.rules.specs.ProgramFile.{Program}
 use Rattle.rules.specs.Rows.{Row, base, Plan, have, make, plan, insert, settle, add}
-use Rattle.rules.specs.Build.{turn, turns, transfer}
+use Rattle.rules.specs.Build.{setAt, turn, turns, transfer}
 use Rattle.rules.specs.SetFile.{TransferSet}
 use Rattle.rules.specs.Operations.{composed}
 use Rattle.laws.specs.Rows.{Inserts, stood, fresh, inserts, ext-length, Grown, bare, plus, grown-trans, grown-ext}
@@ -20,7 +20,9 @@ use Rattle.laws.specs.Build.{turnHeads-grown}
 
 pub turn-grown : (sh : Shape) (i : ℕ) (x : Instr) (xs : List Instr) → Grown (turns sh (suc i) xs .tab) (turns sh i (x ∷ xs) .tab)
 unfolding turns turn
-turn-grown sh i x xs = turnHeads-grown sh i x (turns sh (suc i) xs)
+turn-grown sh i x xs =
+    let b = turns sh (suc i) xs in
+    turnHeads-grown sh i x (b .tab) (setAt b (suc i))
 
 pub turns-grown : (sh : Shape) (i : ℕ) (xs : List Instr) → Grown (base (cells sh)) (turns sh i xs .tab)
 unfolding turns

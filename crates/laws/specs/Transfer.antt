@@ -92,7 +92,7 @@ module _ (P : Program) where
     by-flag s x y true p q = p refl
     by-flag s x y false p q = q refl
 
-    turned : (x : Instr) → getD (P .instrs) i END ≡ x → Fine (vars sh) n i x → Turned i (turnHeads sh i x b)
+    turned : (x : Instr) → getD (P .instrs) i END ≡ x → Fine (vars sh) n i x → Turned i (turnHeads sh i x (b .tab) T)
     turned (plain p) e f =
         let o = own (b .tab) sh p in
         let O = own-acts (b .tab) sh (wf .deep) (m .canonical) p (f .0) in
@@ -147,7 +147,7 @@ module _ (P : Program) where
     turn-made =
         let x = getD (P .instrs) i END in
         let t = turned x refl (wf .fine i i<n) in
-        let more = grown-ext (turnHeads-grown sh i x b) in
+        let more = grown-ext (turnHeads-grown sh i x (b .tab) T) in
         record {
           canonical = t .stands .canonical;
           stands = λ l h g. elim (decLt i l) [

@@ -6,38 +6,38 @@ use lib.ListN.{length, getD}
 use lib.Dec.{leb, ltb, eqb}
 use Rattle.rules.specs.Verdict.{Verdict, granted, refused, refuseIf, _>>=_}
 
--- R13: a constant, a cell, a negation, or AND (true) or OR (false) of two.
+-- R11: a constant, a cell, a negation, or AND (true) or OR (false) of two.
 pub data Exp : Type 0 where
   con : Bool → Exp
   cell : ℕ → Exp
   neg : Exp → Exp
   bin : Bool → Exp → Exp → Exp
 
--- R13: AND (true) or OR (false) of two bits.
+-- R11: AND (true) or OR (false) of two bits.
 abbrev pub op : Bool → Bool → Bool → Bool
 op true a b = a && b
 op false a b = a || b
 
--- R13: the value of an expression on a storage.
+-- R11: the value of an expression on a storage.
 unfoldable pub eval : List Bool → Exp → Bool
 eval s (con b) = b
 eval s (cell c) = getD s c false
 eval s (neg x) = not (eval s x)
 eval s (bin o x y) = op o (eval s x) (eval s y)
 
--- what was read, and the place after it
+-- R9: what was read, and the place after it.
 pub record Read (A : Type 0) : Type 0 where
   pub got : A
   pub next : ℕ
 
--- R14: what the first byte of an expression announces.
+-- R11: what the first byte of an expression announces.
 pub data Announced : Type 0 where
   leaf : Exp → Announced
   one : Announced
   two : Bool → Announced
   bad : Announced
 
--- R14: the expression bytes. A variable must be below v, the number of variables.
+-- R11: the expression bytes. A variable must be below v, the number of variables.
 unfoldable pub announced : ℕ → ℕ → Announced
 announced v b =
     cond (ltb b v) (leaf (cell b))
@@ -47,7 +47,7 @@ announced v b =
     (cond (eqb b 253) (two true)
     (cond (eqb b 254) (two false) bad)))))
 
--- R14: the rest of an expression after its first byte, which stands at p; `rec` reads an operand at a place.
+-- R11: the rest of an expression after its first byte, which stands at p; `rec` reads an operand at a place.
 abbrev pub readOperands : Announced → ℕ → (ℕ → Verdict (Read Exp)) → Verdict (Read Exp)
 readOperands (leaf x) p rec = granted (record { got = x; next = suc p })
 readOperands one p rec = do
@@ -59,7 +59,7 @@ readOperands (two o) p rec = do
   granted (record { got = bin o (x .got) (y .got); next = y .next })
 readOperands bad p rec = refused 6 p
 
--- R14, R54: the expression at p, which must end before `stop`; k is how deep operands may nest: stop - p suffices.
+-- R11, R48: the expression at p, which must end by `stop`; operands may nest k deep, and stop - p is enough.
 unfoldable pub readExpr : ℕ → List ℕ → ℕ → ℕ → ℕ → Verdict (Read Exp)
 readExpr zero file v stop p = refused 6 stop
 readExpr (suc k) file v stop p = do
@@ -67,7 +67,7 @@ readExpr (suc k) file v stop p = do
   _ ← refuseIf (leb (length file) p) 1 (length file)
   readOperands (announced v (getD file p 0)) p (readExpr k file v stop)
 
--- R14: the bytes of an expression, in prefix order.
+-- R11: the bytes of an expression, in prefix order.
 unfoldable pub writeExpr : Exp → List ℕ
 writeExpr (con b) = cond b 251 250 ∷ []
 writeExpr (cell c) = c ∷ []

@@ -7,27 +7,27 @@ use Rattle.rules.specs.Lists.{from}
 use Rattle.rules.specs.Shape.{Shape, flag, cells}
 use Rattle.rules.specs.Expr.{Exp, con, cell, neg, bin}
 
--- R12: the instructions that go on to the next one.
+-- R10: the instructions that go on to the next one.
 pub data Plain : Type 0 where
   INIT NOT TAND TOR PUSH POP DROP DUP FSWP ESWP : Plain
   LOAD AND OR EPUSH : Exp → Plain
   STORE SET RES REDGE FEDGE : ℕ → Plain
 
--- R12: an instruction; a label is an instruction's number.
+-- R10: an instruction; a label is an instruction's number.
 pub data Instr : Type 0 where
   plain : Plain → Instr
   JP JPC JS JSC : ℕ → Instr
   END : Instr
 
--- R20: a cell's expression where b gets x and g tells the others.
+-- R16: a cell's expression where b gets x and g tells the others.
 unfoldable pub put : ℕ → Exp → (ℕ → Exp) → ℕ → Exp
 put b x g c = cond (eqb c b) x (g c)
 
--- R20: every cell kept.
+-- R16: every cell kept.
 abbrev pub keep : ℕ → Exp
 keep c = cell c
 
--- R20: e_k gets g k, and the cells before the stack are kept.
+-- R16: e_k gets g k, and the cells before the stack are kept.
 unfoldable pub stack : Shape → (ℕ → Exp) → ℕ → Exp
 stack sh g c = cond (ltb (flag sh) c) (g (c - flag sh)) (cell c)
 
@@ -38,15 +38,15 @@ f sh = cell (flag sh)
 abbrev pub e : Shape → ℕ → Exp
 e sh k = cell (flag sh + k)
 
--- R23: x comes on top of the stack, and e_d is lost.
+-- R19: x comes on top of the stack, and e_d is lost.
 unfoldable pub pushed : Shape → Exp → ℕ → Exp
 pushed sh x = stack sh (λ k. cond (eqb k 1) x (e sh (k - 1)))
 
--- R23: e1 is taken off the stack, and e_d becomes 0.
+-- R19: e1 is taken off the stack, and e_d becomes 0.
 unfoldable pub popped : Shape → ℕ → Exp
 popped sh = stack sh (λ k. cond (eqb k (sh .depth)) (con false) (e sh (suc k)))
 
--- R20 to R23: what each instruction gives each cell, all from the storage before it.
+-- R16 to R19: what each instruction gives each cell, all from the storage before it.
 unfoldable pub effect : Shape → Plain → ℕ → Exp
 effect sh INIT = put (flag sh) (con true) (stack sh (λ k. con false))
 effect sh (LOAD x) = put (flag sh) x keep
@@ -68,6 +68,6 @@ effect sh DUP = pushed sh (e sh 1)
 effect sh FSWP = put (flag sh) (e sh 1) (put (flag sh + 1) (f sh) keep)
 effect sh ESWP = put (flag sh + 1) (e sh 2) (put (flag sh + 2) (e sh 1) keep)
 
--- R20: the expressions of all cells, in the cells' order. END leaves what INIT leaves (R24).
+-- R16: the expressions of all cells, in the cells' order.
 unfoldable pub effects : Shape → Plain → List Exp
 effects sh p = map (effect sh p) (from 0 (cells sh))

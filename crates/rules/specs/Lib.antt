@@ -12,6 +12,8 @@ pub mod Rows
 pub mod Sets
 pub mod Build
 pub mod SetFile
+pub mod Room
 pub mod Operations
+pub mod Text
 pub mod Lines
 pub mod Bench

@@ -1,65 +1,64 @@
 -- The text that is printed of a set and of a refusal, as bytes.
 use Prim.Native.Nat.{ℕ, zero, suc, _+_, _-_, _/_, _%_}
-use mathlib.Core.Bool.{true, false}
+use Prim.Native.String.{String}
+use mathlib.Core.Bool.{cond}
 use mathlib.Core.List.{List, [], _∷_, _++_, flatMap}
-use lib.ListN.{length, getD}
+use lib.ListN.{length, getD, take}
 use lib.Dec.{ltb}
-use Rattle.rules.specs.Verdict.{Verdict, granted, refused}
+use Rattle.rules.specs.Verdict.{Verdict, granted, refused, _>>=_}
 use Rattle.rules.specs.Lists.{from, orElse}
+use Rattle.rules.specs.Text.{ascii}
 use Rattle.rules.specs.Shape.{cells}
 use Rattle.rules.specs.Rows.{Row, leaf, inv, bin, rowAt}
-use Rattle.rules.specs.SetFile.{TransferSet, leaves}
+use Rattle.rules.specs.SetFile.{TransferSet, leaves, readSet}
+use Rattle.rules.specs.Operations.{build}
+use Rattle.rules.specs.Edition.{old}
 
--- R75: a number in decimal, without leading zeros; k digits are enough.
+-- R60: a number in decimal, without leading zeros; k digits are enough.
 unfoldable pub digits : ℕ → ℕ → List ℕ
 digits zero n = []
 digits (suc k) n = orElse (ltb n 10) ((48 + n) ∷ []) (λ u. digits k (n / 10) ++ ((48 + n % 10) ∷ []))
 
--- R75: the numbers that are printed have at most 20 digits.
+-- R60: the numbers that are printed have at most 20 digits.
 abbrev pub decimal : ℕ → List ℕ
 decimal n = digits 20 n
 
--- R76: the words of a line.
-pub data Word : Type 0 where
-  wCells wRows wIs wNot wAnd wOr wRefused wAt : Word
-  wNumber wCell wRow : ℕ → Word
+-- R61: a word of letters and a number.
+abbrev pub numbered : String → ℕ → List ℕ
+numbered w n = ascii w ++ decimal n
 
--- R76: their bytes: `cells`, `rows`, `=`, `not`, `and`, `or`, `refused`, `at`, a number, `c` and `r` with a number.
-abbrev pub spell : Word → List ℕ
-spell wCells = 99 ∷ 101 ∷ 108 ∷ 108 ∷ 115 ∷ []
-spell wRows = 114 ∷ 111 ∷ 119 ∷ 115 ∷ []
-spell wIs = 61 ∷ []
-spell wNot = 110 ∷ 111 ∷ 116 ∷ []
-spell wAnd = 97 ∷ 110 ∷ 100 ∷ []
-spell wOr = 111 ∷ 114 ∷ []
-spell wRefused = 114 ∷ 101 ∷ 102 ∷ 117 ∷ 115 ∷ 101 ∷ 100 ∷ []
-spell wAt = 97 ∷ 116 ∷ []
-spell (wNumber n) = decimal n
-spell (wCell n) = 99 ∷ decimal n
-spell (wRow n) = 114 ∷ decimal n
+-- R61: one space between words, a line feed at the end.
+unfoldable pub line : List ℕ → List (List ℕ) → List ℕ
+line w [] = w ++ (10 ∷ [])
+line w (v ∷ ws) = w ++ (32 ∷ line v ws)
 
--- R76: one space between words, a line feed at the end.
-unfoldable pub line : Word → List Word → List ℕ
-line w [] = spell w ++ (10 ∷ [])
-line w (v ∷ ws) = spell w ++ (32 ∷ line v ws)
+-- R61: how a cell and a row are named.
+abbrev pub cellName : ℕ → List ℕ
+cellName c = numbered "c" c
 
--- R77: the operation of a row.
-abbrev pub operation : Row → List Word
+abbrev pub rowName : ℕ → List ℕ
+rowName r = numbered "r" r
+
+-- R62: the operation of a row, in words.
+abbrev pub operation : Row → List (List ℕ)
 operation (leaf i) = []
-operation (inv a) = wNot ∷ wRow a ∷ []
-operation (bin true a b) = wAnd ∷ wRow a ∷ wRow b ∷ []
-operation (bin false a b) = wOr ∷ wRow a ∷ wRow b ∷ []
+operation (inv a) = ascii "not" ∷ rowName a ∷ []
+operation (bin o a b) = cond o (ascii "and") (ascii "or") ∷ rowName a ∷ rowName b ∷ []
 
--- R77: the text of a set: cells and operation rows, each cell's head, each operation row.
+-- R62: the text of a set: cells and operation rows, each cell's head, each operation row.
 unfoldable pub setText : TransferSet → List ℕ
 setText z =
     let C = cells (z .shape) in
     let r = length (z .tab) - leaves (z .shape) in
-    line wCells (wNumber C ∷ wRows ∷ wNumber r ∷ [])
-    ++ (flatMap (λ c. line (wCell c) (wIs ∷ wRow (getD (z .heads) c 0) ∷ [])) (from 0 C)
-    ++ flatMap (λ k. line (wRow k) (wIs ∷ operation (rowAt (z .tab) k))) (from (leaves (z .shape)) r))
+    line (ascii "cells") (decimal C ∷ ascii "rows" ∷ decimal r ∷ [])
+    ++ (flatMap (λ c. line (cellName c) (ascii "=" ∷ rowName (getD (z .heads) c 0) ∷ [])) (from 0 C)
+    ++ flatMap (λ k. line (rowName k) (ascii "=" ∷ operation (rowAt (z .tab) k))) (from (leaves (z .shape)) r))
 
--- R78: the text of an answer: the set, or the one line of a refusal.
+-- R63: the text of an answer: the set, or the one line of a refusal.
 abbrev pub answerText : Verdict TransferSet → List ℕ
 answerText (granted z) = setText z
-answerText (refused n p) = line wRefused (wNumber n ∷ wAt ∷ wNumber p ∷ [])
+answerText (refused n p) = line (ascii "refused") (decimal n ∷ ascii "at" ∷ decimal p ∷ [])
+
+-- R64: what `tset` prints of its standard input.
+unfoldable pub tset : List ℕ → List ℕ
+tset input = answerText (build old (take 34312 input) 8192 8192 16384 40957 >>= readSet old)

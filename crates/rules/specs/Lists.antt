@@ -1,4 +1,4 @@
--- Numbers in bytes, counting, searching: the few words on lists that the rules use.
+-- Numbers in bytes, and the few words on lists that the rules are said with.
 use Prim.Native.Nat.{ℕ, zero, suc, _+_, _*_, _/_, _%_}
 use mathlib.Core.Bool.{Bool, true, false, _||_}
 use mathlib.Core.List.{List, [], _∷_}
@@ -16,26 +16,26 @@ unfoldable pub bytesOf : ℕ → ℕ → List ℕ
 bytesOf zero n = []
 bytesOf (suc k) n = n % 256 ∷ bytesOf k (n / 256)
 
--- the n numbers from i on
+-- The n numbers from i on.
 unfoldable pub from : ℕ → ℕ → List ℕ
 from i zero = []
 from i (suc n) = i ∷ from (suc i) n
 
--- whether a number is in a list
+-- Whether a number is in a list.
 unfoldable pub elem : ℕ → List ℕ → Bool
 elem k [] = false
 elem k (x ∷ xs) = eqb k x || elem k xs
 
--- a where the test holds, else the rest, which is computed only then
+-- a where the test holds, else the rest, which is computed only then.
 abbrev pub orElse : {A : Type 0} → Bool → A → (Unit {0} → A) → A
 orElse true a rest = a
 orElse false a rest = rest tt
 
--- the first of the n numbers from i on that passes the test, or i + n where none does
+-- The first of the n numbers from i on that passes the test, or i + n where none does.
 unfoldable pub seek : (ℕ → Bool) → ℕ → ℕ → ℕ
 seek f zero i = i
 seek f (suc n) i = orElse (f i) i (λ u. seek f n (suc i))
 
--- R51: refuses at the first of the numbers below n that passes the test.
+-- R47: refuses at the first of the numbers below n that passes the test.
 abbrev pub refuseFirst : (ℕ → Bool) → ℕ → ℕ → (ℕ → ℕ) → Verdict (Unit {0})
 refuseFirst bad n number place = refuseIf (ltb (seek bad n 0) n) number (place (seek bad n 0))

@@ -12,12 +12,12 @@ use Rattle.rules.specs.Expr.{Exp, Read, readExpr, writeExpr}
 use Rattle.rules.specs.Instr.{Plain, INIT, NOT, TAND, TOR, PUSH, POP, DROP, DUP, FSWP, ESWP, LOAD, AND, OR, EPUSH, STORE, SET, RES, REDGE, FEDGE}
 use Rattle.rules.specs.Instr.{Instr, plain, JP, JPC, JS, JSC, END}
 
--- R10: a shape and the instructions, numbered from 0.
+-- R8: a shape and the instructions, numbered from 0.
 pub record Program : Type 0 where
   pub shape : Shape
   pub instrs : List Instr
 
--- R12: what follows a code: nothing, an expression, a variable, a label; or there is no such code.
+-- R10: what follows a code: nothing, an expression, a variable, a label; or there is no such code.
 pub data Form : Type 0 where
   alone : Instr → Form
   withExpr : (Exp → Plain) → Form
@@ -25,7 +25,7 @@ pub data Form : Type 0 where
   withLabel : (ℕ → Instr) → Form
   unknown : Form
 
--- R12: the codes.
+-- R10: the codes.
 abbrev pub codes : List (ℕ × Form)
 codes =
     (0, alone (plain INIT)) ∷ (1, alone (plain NOT)) ∷ (2, alone (plain TAND)) ∷ (3, alone (plain TOR)) ∷ (4, alone (plain PUSH)) ∷ (5, alone (plain POP))
@@ -34,43 +34,45 @@ codes =
     ∷ (32, withVar STORE) ∷ (33, withVar SET) ∷ (34, withVar RES) ∷ (35, withVar REDGE) ∷ (36, withVar FEDGE)
     ∷ (48, withLabel JP) ∷ (49, withLabel JPC) ∷ (50, withLabel JS) ∷ (51, withLabel JSC) ∷ []
 
--- R12: the form of a code.
+-- R10: the form of a code.
 unfoldable pub formOf : List (ℕ × Form) → ℕ → Form
 formOf [] c = unknown
 formOf (x ∷ xs) c = orElse (eqb (x .0) c) (x .1) (λ u. formOf xs c)
 
--- R15: a variable that an instruction may write: below V and no input.
+-- R12: a variable that an instruction may write: below V and no input.
 abbrev pub writable : Shape → ℕ → Bool
 writable sh b = leb (sh .inputs) b && ltb b (vars sh)
 
--- R11 to R16, R54 to R56: the operand of instruction i of n, from p on; the code stands before it.
-abbrev pub readOperand : Edition → List ℕ → Shape → ℕ → ℕ → ℕ → Form → Verdict (Read Instr)
-readOperand e file sh n i p (alone x) = granted (record { got = x; next = p })
-readOperand e file sh n i p (withExpr g) = do
-  x ← readExpr (e .mostExpr) file (vars sh) (p + e .mostExpr) p
+-- R10 to R13, R48: the body of instruction i of n, whose code, of that form, stands at p.
+abbrev pub readBody : Edition → List ℕ → Shape → ℕ → ℕ → ℕ → Form → Verdict (Read Instr)
+readBody e file sh n i p (alone x) = granted (record { got = x; next = suc p })
+readBody e file sh n i p (withExpr g) = do
+  x ← readExpr (e .mostExpr) file (vars sh) (suc p + e .mostExpr) (suc p)
   granted (record { got = plain (g (x .got)); next = x .next })
-readOperand e file sh n i p (withVar g) = do
-  _ ← refuseIf (leb (length file) p) 1 (length file)
-  _ ← refuseIf (not (writable sh (getD file p 0))) 7 p
-  granted (record { got = plain (g (getD file p 0)); next = suc p })
-readOperand e file sh n i p (withLabel g) = do
-  _ ← refuseIf (ltb (length file) (p + 2)) 1 (length file)
-  _ ← refuseIf (not (ltb i (numberAt 2 file p) && ltb (numberAt 2 file p) n)) 8 p
-  granted (record { got = g (numberAt 2 file p); next = p + 2 })
-readOperand e file sh n i p unknown = refused 5 (p - 1)
+readBody e file sh n i p (withVar g) = do
+  _ ← refuseIf (leb (length file) (suc p)) 1 (length file)
+  b ← granted (getD file (suc p) 0)
+  _ ← refuseIf (not (writable sh b)) 7 (suc p)
+  granted (record { got = plain (g b); next = suc p + 1 })
+readBody e file sh n i p (withLabel g) = do
+  _ ← refuseIf (ltb (length file) (suc p + 2)) 1 (length file)
+  l ← granted (numberAt 2 file (suc p))
+  _ ← refuseIf (not (ltb i l && ltb l n)) 8 (suc p)
+  granted (record { got = g l; next = suc p + 2 })
+readBody e file sh n i p unknown = refused 5 p
 
--- R11: where the contents entry of instruction i stands, and where the first body of n begins.
+-- R9: where the contents entry of instruction i stands; past the n entries the first body begins.
 abbrev pub entryAt : Edition → ℕ → ℕ
 entryAt e i = headerEnd e + 2 * i
 
--- R52: the instruction i of n whose body must stand at p: its entry, its code, its operand.
+-- R9, R48: the instruction i of n whose body must stand at p: its entry, its code, its operand.
 unfoldable pub readInstr : Edition → List ℕ → Shape → ℕ → ℕ → ℕ → Verdict (Read Instr)
 readInstr e file sh n i p = do
   _ ← refuseIf (not (eqb (entryAt e n + numberAt 2 file (entryAt e i)) p)) 4 (entryAt e i)
   _ ← refuseIf (leb (length file) p) 1 (length file)
-  readOperand e file sh n i (suc p) (formOf codes (getD file p 0))
+  readBody e file sh n i p (formOf codes (getD file p 0))
 
--- R11, R52: the last k of n instructions, whose bodies stand one after another from p on.
+-- R9, R48: the last k of n instructions, whose bodies stand one after another from p on.
 unfoldable pub readInstrs : Edition → List ℕ → Shape → ℕ → ℕ → ℕ → Verdict (Read (List Instr))
 readInstrs e file sh n zero p = granted (record { got = []; next = p })
 readInstrs e file sh n (suc k) p = do
@@ -78,7 +80,7 @@ readInstrs e file sh n (suc k) p = do
   xs ← readInstrs e file sh n k (x .next)
   granted (record { got = x .got ∷ xs .got; next = xs .next })
 
--- R17: whether an instruction is END.
+-- R14: whether an instruction is END.
 abbrev pub isEnd : Instr → Bool
 isEnd (plain p) = false
 isEnd (JP l) = false
@@ -87,7 +89,7 @@ isEnd (JS l) = false
 isEnd (JSC l) = false
 isEnd END = true
 
--- R52: reads a program file: header, count, contents, instruction by instruction, nothing after them, END last.
+-- R48: reads a program file: header, count, contents, instruction by instruction, nothing after them, END last.
 unfoldable pub readProgram : Edition → List ℕ → Verdict Program
 readProgram e file = do
   sh ← readHeader e (e .programMark) file
@@ -99,7 +101,7 @@ readProgram e file = do
   _ ← refuseIf (not (isEnd (getD (xs .got) (n - 1) END))) 9 (entryAt e n + numberAt 2 file (entryAt e (n - 1)))
   granted (record { shape = sh; instrs = xs .got })
 
--- R12: the bytes of an instruction's body.
+-- R10: the bytes of an instruction's body.
 unfoldable pub bodyOf : Instr → List ℕ
 bodyOf (plain INIT) = 0 ∷ []
 bodyOf (plain NOT) = 1 ∷ []
@@ -126,11 +128,11 @@ bodyOf (JPC l) = 49 ∷ bytesOf 2 l
 bodyOf (JS l) = 50 ∷ bytesOf 2 l
 bodyOf (JSC l) = 51 ∷ bytesOf 2 l
 
--- R11: the contents entries of bodies whose first stands at offset p.
+-- R9: the contents entries of bodies whose first stands at offset p.
 unfoldable pub entries : ℕ → List Instr → List ℕ
 entries p [] = []
 entries p (x ∷ xs) = bytesOf 2 p ++ entries (p + length (bodyOf x)) xs
 
--- R18: the file of a program.
+-- R15: the file of a program.
 unfoldable pub writeProgram : Edition → Program → List ℕ
 writeProgram e P = writeHeader e (e .programMark) (P .shape) (length (P .instrs)) ++ (entries 0 (P .instrs) ++ flatMap bodyOf (P .instrs))

@@ -7,24 +7,24 @@ use lib.Dec.{eqb}
 use Rattle.rules.specs.Lists.{from}
 use Rattle.rules.specs.Expr.{op}
 
--- R30: row i of the constants and cells is leaf i; an operation row is NOT a, or AND (true) or OR (false) of a and b.
+-- R26: row i of the constants and cells is leaf i; an operation row is NOT a, or AND (true) or OR (false) of a and b.
 pub data Row : Type 0 where
   leaf : ℕ → Row
   inv : ℕ → Row
   bin : Bool → ℕ → ℕ → Row
 
--- R30: the table of C cells before any operation; the row of a cell.
+-- R26: the table of C cells before any operation; the row of a cell.
 unfoldable pub base : ℕ → List Row
 base C = map leaf (from 0 (2 + C))
 
 abbrev pub rowOfCell : ℕ → ℕ
 rowOfCell c = suc (suc c)
 
--- R30: row i of a table.
+-- R26: row i of a table.
 abbrev pub rowAt : List Row → ℕ → Row
 rowAt t i = getD t i (leaf 0)
 
--- R70: a row's kind and operands as numbers, as its file has them.
+-- R42: a row's kind and operands as numbers, as its file has them.
 abbrev pub kind : Row → ℕ
 kind (leaf i) = 0
 kind (inv a) = 1
@@ -41,31 +41,31 @@ right (leaf i) = 0
 right (inv a) = 0
 right (bin o a b) = b
 
--- R34: whether two rows are the same.
+-- R30: whether two rows are the same.
 abbrev pub same : Row → Row → Bool
 same q r = eqb (kind q) (kind r) && (eqb (left q) (left r) && eqb (right q) (right r))
 
--- R31: the value of a row on a storage s, where vs has the values of the rows before it.
+-- R27: the value of a row on a storage s, where vs has the values of the rows before it.
 abbrev pub rowValue : List Bool → List Bool → Row → Bool
 rowValue s vs (leaf i) = getD (false ∷ true ∷ s) i false
 rowValue s vs (inv a) = not (getD vs a false)
 rowValue s vs (bin o a b) = op o (getD vs a false) (getD vs b false)
 
--- R31: the values of the rows of a table, after those in vs.
+-- R27: the values of the rows of a table, after those in vs.
 unfoldable pub values : List Bool → List Bool → List Row → List Bool
 values s vs [] = vs
 values s vs (r ∷ t) = values s (vs ++ (rowValue s vs r ∷ [])) t
 
--- R31: the value of row i.
+-- R27: the value of row i.
 unfoldable pub value : List Row → List Bool → ℕ → Bool
 value t s i = getD (values s [] t) i false
 
--- R32: what the rule does with an operation: it names a row that stands, or a row that must stand.
+-- R28: what the rule does with an operation: it names a row that stands, or a row that must stand.
 pub data Plan : Type 0 where
   have : ℕ → Plan
   make : Row → Plan
 
--- R32: NOT of row a, which is r.
+-- R28: NOT of row a, which is r.
 abbrev pub planNot : ℕ → Row → Plan
 planNot zero r = have 1
 planNot (suc zero) r = have 0
@@ -73,7 +73,7 @@ planNot (suc (suc a)) (leaf i) = make (inv (suc (suc a)))
 planNot (suc (suc a)) (inv b) = have b
 planNot (suc (suc a)) (bin o b c) = make (inv (suc (suc a)))
 
--- R33: the constant that decides AND (OR), and the one that leaves the other operand.
+-- R29: the constant that decides AND (OR), and the one that leaves the other operand.
 abbrev pub absorbing : Bool → ℕ
 absorbing true = 0
 absorbing false = 1
@@ -82,7 +82,7 @@ abbrev pub neutral : Bool → ℕ
 neutral true = 1
 neutral false = 0
 
--- R33: AND or OR of the rows a and b, which are p and q.
+-- R29: AND or OR of the rows a and b, which are p and q.
 unfoldable pub planBin : Bool → ℕ → Row → ℕ → Row → Plan
 planBin o a p b q =
     cond (eqb a (absorbing o)) (have a)
@@ -92,23 +92,23 @@ planBin o a p b q =
     (cond (eqb a b) (have a)
     (make (bin o (min a b) (max a b)))))))
 
--- R32, R33: the plan for an operation over the rows of a table.
+-- R28, R29: the plan for an operation over the rows of a table.
 abbrev pub plan : List Row → Row → Plan
 plan t (leaf i) = have i
 plan t (inv a) = planNot a (rowAt t a)
 plan t (bin o a b) = planBin o a (rowAt t a) b (rowAt t b)
 
--- R34: the number of the first row that is r, or the number that r gets at the end.
+-- R30: the number of the first row that is r, or the number that r gets at the end.
 unfoldable pub find : List Row → Row → ℕ
 find [] r = 0
 find (q ∷ t) r = cond (same q r) 0 (suc (find t r))
 
--- R34: the table in which r stands: as it is if r is there, else with r at its end.
+-- R30: the table in which r stands: as it is if r is there, else with r at its end.
 unfoldable pub insert : List Row → Row → List Row
 insert [] r = r ∷ []
 insert (q ∷ t) r = q ∷ cond (same q r) t (insert t r)
 
--- R34: a table after an addition, and the row that was asked for.
+-- R30: a table after an addition, and the row that was asked for.
 pub record Added : Type 0 where
   pub tab : List Row
   pub row : ℕ
@@ -117,6 +117,6 @@ abbrev pub settle : List Row → Plan → Added
 settle t (have i) = record { tab = t; row = i }
 settle t (make r) = record { tab = insert t r; row = find t r }
 
--- R32 to R34: adding an operation to a table.
+-- R28 to R30: adding an operation to a table.
 abbrev pub add : List Row → Row → Added
 add t r = settle t (plan t r)

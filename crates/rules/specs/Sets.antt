@@ -7,74 +7,74 @@ use lib.Dec.{eqb}
 use Rattle.rules.specs.Lists.{from, elem}
 use Rattle.rules.specs.Rows.{Row, leaf, inv, bin, base, rowAt, value, Added, add}
 
--- R36: a table and a head, a row number, for each cell.
+-- R31: a table and a head, a row number, for each cell.
 pub record Heads : Type 0 where
   pub tab : List Row
   pub heads : List ℕ
 
--- R36: evaluating: every cell gets the value of its head on the storage before.
+-- R31: evaluating: every cell gets the value of its head on the storage before.
 unfoldable pub act : List Row → List ℕ → List Bool → List Bool
 act t x s = map (value t s) x
 
--- R37: the set that changes nothing: each cell's head is the cell's own row.
+-- R32: the set that changes nothing: each cell's head is the cell's own row.
 unfoldable pub unchanging : ℕ → List ℕ
 unchanging C = from 2 C
 
--- R30: the rows that a row names.
+-- R26: the rows that a row names.
 abbrev pub operands : Row → List ℕ
 operands (leaf i) = []
 operands (inv a) = a ∷ []
 operands (bin o a b) = a ∷ b ∷ []
 
--- R38: the numbers in x, and those that the rows below k among them name, and so on down.
+-- R33: the numbers in x, what the rows below k among them name, what those name, and so on.
 unfoldable pub needs : List Row → ℕ → List ℕ → List ℕ
 needs t zero x = x
 needs t (suc k) x = needs t k (cond (elem k x) (operands (rowAt t k) ++ x) x)
 
--- R38: whether the heads x reach row k.
+-- R33: whether the heads x reach row k.
 abbrev pub reaches : List Row → List ℕ → ℕ → Bool
 reaches t x k = elem k (needs t (length t) x)
 
--- R39: a table that rows are carried to, and the new number of each row carried so far.
+-- R34: a table that rows are carried to, and the new number of each row carried so far.
 pub record Carried : Type 0 where
   pub tab : List Row
   pub new : List ℕ
 
--- R39: carries one row over: a constant stays, cell c becomes x's head c, an operation is put with its operands renumbered.
+-- R34: carries one row over: a constant stays, cell c becomes x's head c, an operation is put with its operands renumbered.
 abbrev pub carryOne : (List Row → Row → Added) → List ℕ → Carried → Row → Added
 carryOne put x m (leaf i) = record { tab = m .tab; row = getD (0 ∷ 1 ∷ x) i 0 }
 carryOne put x m (inv a) = put (m .tab) (inv (getD (m .new) a 0))
 carryOne put x m (bin o a b) = put (m .tab) (bin o (getD (m .new) a 0) (getD (m .new) b 0))
 
--- R39: carries a row over if it is reached; one that is not gets no place.
+-- R34: carries a row over if it is reached; one that is not gets no place.
 abbrev pub carryRow : (List Row → Row → Added) → List ℕ → Carried → Row → Bool → Carried
 carryRow put x m r false = record { tab = m .tab; new = m .new ++ (0 ∷ []) }
 carryRow put x m r true =
     let a = carryOne put x m r in
     record { tab = a .tab; new = m .new ++ (a .row ∷ []) }
 
--- R39: carries the first k rows of u to t by `put`, those that y reaches, in rising number, with cell c replaced by x's head c.
+-- R34: carries the first k rows of u to t by `put`, those that y reaches, in rising number, with cell c replaced by x's head c.
 unfoldable pub carry : (List Row → Row → Added) → List Row → List ℕ → List Row → List ℕ → ℕ → Carried
 carry put t x u y zero = record { tab = t; new = [] }
 carry put t x u y (suc k) = carryRow put x (carry put t x u y k) (rowAt u k) (reaches u y k)
 
--- R39: the heads y where all rows that they reach have been carried.
+-- R34: the heads y where all rows that they reach have been carried.
 abbrev pub moved : Carried → List ℕ → Heads
 moved m y = record { tab = m .tab; heads = map (λ h. getD (m .new) h 0) y }
 
--- R39: the set (u, y) after the set (t, x): y's rows added to t by the rule.
+-- R34: the set (u, y) after the set (t, x): y's rows added to t by the rule.
 unfoldable pub after : List Row → List ℕ → List Row → List ℕ → Heads
 after t x u y = moved (carry add t x u y (length u)) y
 
--- R40: puts a row at the end, whatever stands in the table.
+-- R36: puts a row at the end, whatever stands in the table.
 abbrev pub append : List Row → Row → Added
 append t r = record { tab = t ++ (r ∷ []); row = length t }
 
--- R40: a set of C cells as its file has it: the rows that its heads reach, in order, renumbered.
+-- R36: a set of C cells as its file has it: the rows that its heads reach, in order, renumbered.
 unfoldable pub squeeze : ℕ → List Row → List ℕ → Heads
 squeeze C t x = moved (carry append (base C) (unchanging C) t x (length t)) x
 
--- R36: the heads that adding gives for a list, one after another, in one table.
+-- R31: the heads that adding gives for a list, one after another, in one table.
 unfoldable pub each : {A : Type 0} → (List Row → A → Added) → List Row → List A → Heads
 each put t [] = record { tab = t; heads = [] }
 each put t (x ∷ xs) =
@@ -82,7 +82,7 @@ each put t (x ∷ xs) =
     let rest = each put (a .tab) xs in
     record { tab = rest .tab; heads = a .row ∷ rest .heads }
 
--- R41: x if row f is 1, else y: NOT f, AND f x, AND (NOT f) y, and OR of both.
+-- R35: x if row f is 1, else y: NOT f, AND f x, AND (NOT f) y, and OR of both.
 unfoldable pub fourRows : List Row → ℕ → ℕ → ℕ → Added
 fourRows t f x y =
     let n = add t (inv f) in
@@ -90,10 +90,10 @@ fourRows t f x y =
     let b = add (a .tab) (bin true (n .row) y) in
     add (b .tab) (bin false (a .row) (b .row))
 
--- R41: one cell's choice by row f of the heads x and y: equal heads are kept.
+-- R35: one cell's choice by row f of the heads x and y: equal heads are kept.
 unfoldable pub choose : List Row → ℕ → ℕ → ℕ → Added
 choose t f x y = cond (eqb x y) (record { tab = t; row = x }) (fourRows t f x y)
 
--- R41: choice by row f of the sets x and y, cells in order.
+-- R35: choice by row f of the sets x and y, cells in order.
 unfoldable pub choice : List Row → ℕ → List ℕ → List ℕ → Heads
 choice t f x y = each (λ u p. choose u f (p .0) (p .1)) t (zip x y)

@@ -25,19 +25,19 @@ flag sh = vars sh
 abbrev pub cells : Shape → ℕ
 cells sh = vars sh + 1 + sh .depth
 
--- R1, R53: the depth is 2 to 16, and the variables are 1 to the edition's most.
+-- R1, R46: the depth is 2 to 16, and the variables are 1 to the edition's most.
 abbrev pub checkShape : Edition → Shape → Verdict (Unit {0})
 checkShape e sh = do
   _ ← refuseIf (not (leb 2 (sh .depth) && leb (sh .depth) 16)) 3 1
   refuseIf (not (leb 1 (vars sh) && leb (vars sh) (e .mostVars))) 3 2
 
--- R9: the shape that a header gives.
+-- R7: the shape that a header gives.
 unfoldable pub shapeAt : Edition → List ℕ → Shape
 shapeAt e file =
     let w = e .countBytes in
     record { depth = getD file 1 0; inputs = numberAt w file 2; outputs = numberAt w file (2 + w); memory = numberAt w file (2 + w + w) }
 
--- R9, R53: reads a header that begins with the mark. Refuses a short file, another mark, a bad shape.
+-- R7, R46: reads a header that begins with the mark. Refuses a short file, another mark, a bad shape.
 unfoldable pub readHeader : Edition → ℕ → List ℕ → Verdict Shape
 readHeader e mark file = do
   _ ← refuseIf (ltb (length file) (headerEnd e)) 1 (length file)
@@ -45,7 +45,7 @@ readHeader e mark file = do
   _ ← checkShape e (shapeAt e file)
   granted (shapeAt e file)
 
--- R9: the header with a mark, a shape and a count.
+-- R7: the header with a mark, a shape and a count.
 unfoldable pub writeHeader : Edition → ℕ → Shape → ℕ → List ℕ
 writeHeader e mark sh n =
     let w = e .countBytes in
