@@ -9,7 +9,7 @@ use Rattle.rules.specs.Lists.{numberAt, bytesOf, from, elem, seek}
 use Rattle.rules.specs.Edition.{old}
 use Rattle.rules.specs.Shape.{Shape, shapeAt, readHeader, writeHeader}
 use Rattle.rules.specs.Expr.{Exp, con, cell, neg, bin, eval, announced, readExpr, writeExpr}
-use Rattle.rules.specs.Instr.{TAND, PUSH, POP, DUP, LOAD, EPUSH, STORE, SET, REDGE, put, stack, pushed, popped, effect, effects}
+use Rattle.rules.specs.Instr.{NOT, TAND, PUSH, POP, DUP, LOAD, EPUSH, STORE, SET, REDGE, put, stack, pushed, popped, effect, effects}
 use Rattle.rules.specs.Instr.{Instr, plain, JP, JPC, JS, JSC, END}
 use Rattle.rules.specs.ProgramFile.{formOf, readInstr, readInstrs, readProgram, bodyOf, entries, writeProgram}
 use Rattle.rules.specs.Machine.{perform, scanFrom}
@@ -103,6 +103,9 @@ copySet = setBytes (shape 2 0 2 0) 0 (2 ∷ 2 ∷ 1 ∷ 0 ∷ 0 ∷ []) []
 abbrev pub maybeCall : List ℕ
 maybeCall = file (shape 2 0 1 0) (JSC 2 ∷ store 0 ∷ END ∷ [])
 
+abbrev pub called : List ℕ
+called = file (shape 2 0 2 0) (JS 3 ∷ store 1 ∷ END ∷ plain NOT ∷ store 0 ∷ END ∷ [])
+
 abbrev pub doubled : List ℕ
 doubled = file (shape 2 0 1 0) (plain DUP ∷ plain POP ∷ plain TAND ∷ store 0 ∷ END ∷ [])
 
@@ -158,7 +161,10 @@ bench =
     -- our own: first then second
     ∷ (composes copySet swapSet 7 7 17, granted copySet)
     ∷ (composes swapSet copySet 7 7 17, granted (setBytes (shape 2 0 2 0) 0 (3 ∷ 3 ∷ 1 ∷ 0 ∷ 0 ∷ []) []))
-    -- our own: JSC not taken keeps f, and taken resets it; DUP keeps e1; a left operand's rows come first; an entry comes before its code
+    ∷ (builds called 8 8 30 22, granted (setBytes (shape 2 0 2 0) 1 (7 ∷ 1 ∷ 1 ∷ 0 ∷ 0 ∷ []) (1 ∷ 4 ∷ 0 ∷ 0 ∷ 0 ∷ [])))
+    ∷ (builds maybeCall 9 9 12 30, granted (setBytes (shape 2 0 1 0) 3 (8 ∷ 1 ∷ 0 ∷ 0 ∷ []) (1 ∷ 3 ∷ 0 ∷ 0 ∷ 0 ∷ 2 ∷ 3 ∷ 0 ∷ 6 ∷ 0 ∷ 3 ∷ 3 ∷ 0 ∷ 7 ∷ 0 ∷ [])))
+    -- our own: JSC not taken keeps f, and taken resets it; DUP keeps e1; a left operand's rows come first; an entry is judged before
+    -- what stands there
     ∷ (scans maybeCall (1 ∷ 0 ∷ 1 ∷ 0 ∷ []) 3, granted (3 ∷ 0 ∷ 1 ∷ 0 ∷ 0 ∷ []))
     ∷ (scans maybeCall (0 ∷ 1 ∷ 1 ∷ 0 ∷ []) 4, granted (4 ∷ 1 ∷ 1 ∷ 0 ∷ 0 ∷ []))
     ∷ (scans doubled (0 ∷ 0 ∷ 1 ∷ 0 ∷ []) 5, granted (5 ∷ 1 ∷ 1 ∷ 0 ∷ 0 ∷ []))
@@ -168,6 +174,7 @@ bench =
           (1 ∷ 2 ∷ 0 ∷ 0 ∷ 0 ∷ 1 ∷ 3 ∷ 0 ∷ 0 ∷ 0 ∷ 2 ∷ 8 ∷ 0 ∷ 9 ∷ 0 ∷ [])),
     )
     ∷ (checksProgram (set (set edge 9 3) 17 99), refused 4 9)
+    ∷ (checksProgram (take 17 (set edge 9 3)), refused 4 9)
     ∷ []
 
 -- Every example of the table gives what the table says.
