@@ -18,7 +18,9 @@ use Rattle.rules.specs.Sets.{after}
 use Rattle.rules.specs.Build.{addExp, own, turnHeads}
 use Rattle.laws.specs.Lists.{length-from}
 use Rattle.laws.specs.Canonical.{Canonical, Over, Names}
-use Rattle.laws.specs.Rows.{cell-value, ext-refl, ext-length, ext-value, zero-is, one-is, Grown, bare, plus, grown-trans, grown-ext, Sound, add-sound}
+use Rattle.laws.specs.Rows.{cell-value}
+use Rattle.laws.specs.Grow.{ext-refl, ext-length, ext-value, Grown, bare, plus, grown-trans, grown-ext}
+use Rattle.laws.specs.Rule.{zero-is, one-is, Sound, add-sound}
 use Rattle.laws.specs.After.{Acts, after-grown}
 use Rattle.laws.specs.Choice.{All, Good, each-grown, each-count, each-owed, owed-acts, choice-grown}
 

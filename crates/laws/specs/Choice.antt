@@ -11,7 +11,8 @@ use Rattle.rules.specs.Expr.{op}
 use Rattle.rules.specs.Rows.{Row, inv, bin, value, Added, add}
 use Rattle.rules.specs.Sets.{Heads, act, each, fourRows, choose, choice}
 use Rattle.laws.specs.Canonical.{Canonical}
-use Rattle.laws.specs.Rows.{Ext, ext-refl, ext-trans, ext-length, ext-value, add-extends, Grown, bare, plus, grown-trans, grown-ext, Sound, add-sound}
+use Rattle.laws.specs.Grow.{Ext, ext-refl, ext-trans, ext-length, ext-value, add-extends, Grown, bare, plus, grown-trans, grown-ext}
+use Rattle.laws.specs.Rule.{Sound, add-sound}
 use Rattle.laws.specs.After.{Stands, Acts, over}
 
 -- Every element of a list has the property.

@@ -7,6 +7,8 @@ pub mod Shape
 pub mod ProgramFile
 pub mod Machine
 pub mod Rows
+pub mod Grow
+pub mod Rule
 pub mod Reach
 pub mod After
 pub mod Choice

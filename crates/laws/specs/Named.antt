@@ -16,10 +16,11 @@ use Rattle.rules.specs.Sets.{unchanging, operands, reaches, Carried, carryRow, 
 use Rattle.rules.specs.SetFile.{named}
 use Rattle.laws.specs.Lists.{elem-append, elem-at, map-ext, map-id}
 use Rattle.laws.specs.Canonical.{Below, Canonical}
-use Rattle.laws.specs.Rows.{base-take, op-earlier, Ready}
+use Rattle.laws.specs.Rows.{base-take}
 use Rattle.laws.specs.Reach.{operands-low, needs-keeps, needs-closed, needs-origin, NamedBy, Operands, reaches-operands}
 use Rattle.laws.specs.After.{Stands, over, snoc-length, snoc-each}
-use Rattle.laws.specs.Squeeze.{ren, carry-op, unchanging-at, Packed, packed, canonical-ready}
+use Rattle.laws.specs.Rule.{canonical-ready, op-earlier, Ready}
+use Rattle.laws.specs.Squeeze.{ren, carry-op, unchanging-at, Packed, packed}
 
 -- A row of the list names a.
 pub record Namer (a : ℕ) (l : List Row) : Type 0 where

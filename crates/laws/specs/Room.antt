@@ -12,7 +12,8 @@ use Rattle.rules.specs.Rows.{Row, base, Plan, have, make, plan, insert, settle,
 use Rattle.rules.specs.Build.{setAt, turn, turns, transfer}
 use Rattle.rules.specs.SetFile.{TransferSet}
 use Rattle.rules.specs.Operations.{composed}
-use Rattle.laws.specs.Rows.{Inserts, stood, fresh, inserts, ext-length, Grown, bare, plus, grown-trans, grown-ext}
+use Rattle.laws.specs.Rows.{Inserts, stood, fresh, inserts}
+use Rattle.laws.specs.Grow.{ext-length, Grown, bare, plus, grown-trans, grown-ext}
 use Rattle.laws.specs.After.{after-grown}
 use Rattle.laws.specs.Build.{turnHeads-grown}
 

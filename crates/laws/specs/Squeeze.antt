@@ -1,73 +1,23 @@
 -- The set in its own numbering: squeezing keeps values, gives a canonical table in which every operation row is named, and leaves such a set as it is.
 -- The one idea: over a canonical table, putting reached rows at the end is the same as adding them by the rule, so the laws of *after* apply.
-use Prim.Native.Nat.{ℕ, zero, suc, _+_, _-_, _≤_, _<_, min, max}
+use Prim.Native.Nat.{ℕ, zero, suc, _+_, _-_, _≤_, _<_}
 use mathlib.Core.Path.{_≡_, refl, sym, ap, ap₂, _∙_}
-use mathlib.Core.Bool.{Bool, true, false, cond}
+use mathlib.Core.Bool.{Bool, true, false}
 use mathlib.Core.List.{List, [], _∷_, _++_, map}
 use native.Mathlib.Omega.{arith}
 use native.Mathlib.Decide.{decLt}
 use lib.ListN.{length, getD, length-append, length-map, List·getD-map, List·getD-eq-default}
 use lib.Seq.{getD-append-seam, ext-getD}
-use lib.Dec.{eqb}
-use borrow.Author.Tests.{eqb-false}
 use Rattle.rules.specs.Lists.{from}
-use Rattle.rules.specs.Rows.{Row, leaf, inv, bin, base, rowOfCell, rowAt, value, have, make, planNot, absorbing, neutral, planBin, plan, find, Added, settle, add}
+use Rattle.rules.specs.Rows.{Row, leaf, inv, bin, base, rowOfCell, rowAt, value, make, plan, find, Added, settle, add}
 use Rattle.rules.specs.Sets.{act, unchanging, reaches, Carried, carryOne, carryRow, carry, moved, after, append, squeeze}
 use Rattle.laws.specs.Lists.{length-from, getD-from}
 use Rattle.laws.specs.Canonical.{Below, Canonical}
-use Rattle.laws.specs.Rows.{Ext, ext-refl, ext-trans, ext-length, ext-row, Ready, below-more, op-earlier, zero-is, cell-value, no-constant, planBin-normal, Inserts, stood, fresh, inserts, base-at, length-base, base-canonical}
+use Rattle.laws.specs.Rule.{Ready, base-canonical, below-more, canonical-ready, op-earlier, planBin-made, planBin-normal, planNot-made, planNot-normal, zero-is}
+use Rattle.laws.specs.Rows.{cell-value, Inserts, stood, fresh, inserts, base-at, length-base}
+use Rattle.laws.specs.Grow.{Ext, ext-refl, ext-trans, ext-length, ext-row}
 use Rattle.laws.specs.Reach.{Operands, reaches-operands}
 use Rattle.laws.specs.After.{Stands, over, snoc-last, snoc-old, snoc-length, snoc-each, after-acts}
-
--- ---- what a plan to make the very row tells
-
-planNot-made : (a : ℕ) (r : Row) → planNot a r ≡ make (inv a) → (2 ≤ a) × ((b : ℕ) → r ≡ inv b → ⊥)
-planNot-made zero r e =
-    let z : _≡_ {A = ℕ} 0 1 = cc in
-    absurd (omega arith)
-planNot-made (suc zero) r e =
-    let z : _≡_ {A = ℕ} 0 1 = cc in
-    absurd (omega arith)
-planNot-made (suc (suc a)) r e = (omega arith, λ b p. (let z : _≡_ {A = ℕ} 0 1 = cc in omega arith))
-
-planNot-normal : (a : ℕ) (r : Row) → 2 ≤ a → ((b : ℕ) → r ≡ inv b → ⊥) → planNot a r ≡ make (inv a)
-planNot-normal zero r h n = absurd (omega arith)
-planNot-normal (suc zero) r h n = absurd (omega arith)
-planNot-normal (suc (suc a)) (leaf i) h n = refl
-planNot-normal (suc (suc a)) (inv b) h n = absurd (n b refl)
-planNot-normal (suc (suc a)) (bin o b c) h n = refl
-
-planBin-made : (o : Bool) (a b : ℕ) (p q : Row) → planBin o a p b q ≡ make (bin o a b) → (2 ≤ a) × (a < b)
-unfolding planBin
-planBin-made o a b p q = go (eqb a (absorbing o)) refl (eqb b (absorbing o)) refl (eqb a (neutral o)) refl (eqb b (neutral o)) refl (eqb a b) refl
-  where
-    never : (i : ℕ) → have i ≡ make (bin o a b) → (2 ≤ a) × (a < b)
-    never i e =
-        let z : _≡_ {A = ℕ} 0 1 = cc in
-        absurd (omega arith)
-
-    go : (k : Bool) → eqb a (absorbing o) ≡ k → (l : Bool) → eqb b (absorbing o) ≡ l → (m : Bool) → eqb a (neutral o) ≡ m → (n : Bool) → eqb b (neutral o) ≡ n → (c : Bool) → eqb a b ≡ c
-        → cond k (have a) (cond l (have b) (cond m (have b) (cond n (have a) (cond c (have a) (make (bin o (min a b) (max a b))))))) ≡ make (bin o a b) → (2 ≤ a) × (a < b)
-    go true _ l _ m _ n _ c _ e = never a e
-    go false _ true _ m _ n _ c _ e = never b e
-    go false _ false _ true _ n _ c _ e = never b e
-    go false _ false _ false _ true _ c _ e = never a e
-    go false _ false _ false _ false _ true _ e = never a e
-    go false k false l false m false n false c e =
-        let z : min a b ≡ a = cc in
-        let ne : a ≡ b → ⊥ = eqb-false a b c in
-        (no-constant o a (eqb-false a _ k) (eqb-false a _ m), omega arith)
-
--- An operation row of a canonical table is an operation over earlier rows.
-pub canonical-ready : {C : ℕ} {t : List Row} → Canonical C t → (k : ℕ) → 2 + C ≤ k → k < length t → Ready k (rowAt t k)
-canonical-ready {C} {t} w k h g = go (rowAt t k) (w .earlier k h g) (w .normal k h g)
-  where
-    go : (r : Row) → Below k r → plan t r ≡ make r → Ready k r
-    go (leaf i) b e =
-        let z : _≡_ {A = ℕ} 0 1 = cc in
-        absurd (omega arith)
-    go (inv a) b e = b
-    go (bin o a c) b e = b
 
 -- ---- renumbering
 

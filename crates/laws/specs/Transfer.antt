@@ -15,7 +15,9 @@ use Rattle.rules.specs.Rows.{Row, rowOfCell, value}
 use Rattle.rules.specs.Sets.{Heads, act, after}
 use Rattle.rules.specs.Build.{own, Built, setAt, turnHeads, turn, turns, transfer}
 use Rattle.laws.specs.Canonical.{Canonical, Fine, WellFormed}
-use Rattle.laws.specs.Rows.{grown-ext, cell-value, base-canonical}
+use Rattle.laws.specs.Rows.{cell-value}
+use Rattle.laws.specs.Grow.{grown-ext}
+use Rattle.laws.specs.Rule.{base-canonical}
 use Rattle.laws.specs.Machine.{run-add}
 use Rattle.laws.specs.After.{Stands, over, stands-ext, act-kept, after-acts, after-grown}
 use Rattle.laws.specs.Choice.{choice-acts}
