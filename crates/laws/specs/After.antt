@@ -31,7 +31,8 @@ abbrev pub over : List Row → List ℕ → Heads
 over t x = record { tab = t; heads = x }
 
 -- Two ways to evaluate heads agree where they agree on every head.
-pub act-ext : (t u : List Row) (x : List ℕ) (s r : List Bool) → ((c : ℕ) → value t s (getD x c 0) ≡ value u r (getD x c 0)) → act t x s ≡ act u x r
+pub act-ext : (t u : List Row) (x : List ℕ) (s r : List Bool) → ((c : ℕ) → value t s (getD x c 0) ≡ value u r (getD x c 0))
+    → act t x s ≡ act u x r
 unfolding act
 act-ext t u x s r e = map-ext (value t s) (value u r) 0 x (λ c h. e c)
 
@@ -57,7 +58,8 @@ carryRow-grown x m r true = carryOne-grown x m r
 pub carry-grown : (t : List Row) (x : List ℕ) (u : List Row) (y : List ℕ) (k : ℕ) → Grown t (carry add t x u y k .tab)
 unfolding carry
 carry-grown t x u y zero = bare t
-carry-grown t x u y (suc k) = grown-trans (carry-grown t x u y k) (carryRow-grown x (carry add t x u y k) (rowAt u k) (reaches u y k))
+carry-grown t x u y (suc k) = grown-trans (carry-grown t x u y k)
+    (carryRow-grown x (carry add t x u y k) (rowAt u k) (reaches u y k))
 
 pub after-grown : (t : List Row) (x : List ℕ) (u : List Row) (y : List ℕ) → Grown t (after t x u y .tab)
 unfolding after
@@ -89,7 +91,10 @@ snoc-low (b ∷ l) a n m h g p (suc i) = snoc-low l a n m (λ i. h (suc i)) g p 
 
 -- The leaf's row of a canonical table is the leaf of its own number.
 pub leaf-own : {C : ℕ} {t : List Row} → Canonical C t → (k i : ℕ) → k < length t → rowAt t k ≡ leaf i → (i ≡ k) × (k < 2 + C)
-leaf-own {C} {t} w k i h e = elim (decLt k (2 + C)) [ yes p ↦ (let q : leaf i ≡ leaf k = sym e ∙ w .leaf-at k p in (cc, p)) | no p ↦ absurd (never (omega arith)) ]
+leaf-own {C} {t} w k i h e = elim (decLt k (2 + C)) [
+  | yes p ↦ (let q : leaf i ≡ leaf k = sym e ∙ w .leaf-at k p in (cc, p))
+  | no p ↦ absurd (never (omega arith))
+]
   where
     never : 2 + C ≤ k → ⊥
     never p =
@@ -102,14 +107,16 @@ pub record Stage (C : ℕ) (t : List Row) (x : List ℕ) (u : List Row) (y : Lis
   pub canonical : Canonical C (m .tab)
   pub size : length (m .new) ≡ k
   pub low : (i : ℕ) → getD (m .new) i 0 < length (m .tab)
-  pub val : (i : ℕ) → i < k → reaches u y i ≡ true → (s : List Bool) → value (m .tab) s (getD (m .new) i 0) ≡ value u (act t x s) i
+  pub val : (i : ℕ) → i < k → reaches u y i ≡ true → (s : List Bool)
+      → value (m .tab) s (getD (m .new) i 0) ≡ value u (act t x s) i
 
 module _ {C : ℕ} (t : List Row) (x : List ℕ) (u : List Row) (y : List ℕ) (X : Stands C (over t x)) (w : Canonical C u) where
   closed : (k : ℕ) (r : Row) → k < length u → rowAt u k ≡ r → reaches u y k ≡ true → Operands (λ a. reaches u y a ≡ true) r
   closed k r = reaches-operands u (λ i h. op-earlier w i (rowAt u i) h refl) y k r
 
   -- The head that replaces leaf i has the leaf's value on the storage that x leaves.
-  head-value : (i : ℕ) → i < 2 + C → (s : List Bool) → value t s (getD (0 ∷ 1 ∷ x) i 0) ≡ getD (false ∷ true ∷ act t x s) i false
+  head-value : (i : ℕ) → i < 2 + C → (s : List Bool)
+      → value t s (getD (0 ∷ 1 ∷ x) i 0) ≡ getD (false ∷ true ∷ act t x s) i false
   unfolding act
   head-value zero h s = zero-is (X .canonical) s
   head-value (suc zero) h s = one-is (X .canonical) s
@@ -117,7 +124,8 @@ module _ {C : ℕ} (t : List Row) (x : List ℕ) (u : List Row) (y : List ℕ) (
       let z : value t s 0 ≡ false = zero-is (X .canonical) s in
       rw (← z) (sym (List·getD-map (value t s) x c 0))
 
-  one-sound : (k : ℕ) (m : Carried) → k < length u → Stage C t x u y k m → Ext t (m .tab) → (r : Row) → rowAt u k ≡ r → reaches u y k ≡ true
+  one-sound : (k : ℕ) (m : Carried) → k < length u → Stage C t x u y k m → Ext t (m .tab) → (r : Row) → rowAt u k ≡ r
+      → reaches u y k ≡ true
       → Sound C (carryOne add x m r) (λ s. value u (act t x s) k)
   unfolding value
   one-sound k m h g p (leaf i) e q =
@@ -126,7 +134,8 @@ module _ {C : ℕ} (t : List Row) (x : List ℕ) (u : List Row) (y : List ℕ) (
       record {
         canonical = g .canonical;
         low = omega (arith, low, ext-length p);
-        val = λ s. ext-value p s (getD (0 ∷ 1 ∷ x) i 0) low ∙ head-value i (omega (arith, own .0, own .1)) s ∙ sym (canonical-value w (act t x s) k h ∙ ap (meaning u (act t x s)) e);
+        val = λ s. ext-value p s (getD (0 ∷ 1 ∷ x) i 0) low ∙ head-value i (omega (arith, own .0, own .1)) s
+            ∙ sym (canonical-value w (act t x s) k h ∙ ap (meaning u (act t x s)) e);
       }
     where
       head-low : (i : ℕ) → getD (0 ∷ 1 ∷ x) i 0 < length t
@@ -136,20 +145,36 @@ module _ {C : ℕ} (t : List Row) (x : List ℕ) (u : List Row) (y : List ℕ) (
   one-sound k m h g p (inv a) e q =
       let a<k : a < k = op-earlier w k (inv a) h e in
       let z = add-sound (g .canonical) (inv (getD (m .new) a 0)) (g .low a) in
-      record { canonical = z .canonical; low = z .low; val = λ s. cc (z .val s, g .val a a<k (closed k (inv a) h e q) s, canonical-value w (act t x s) k h, e) }
+      record {
+        canonical = z .canonical;
+        low = z .low;
+        val = λ s. cc (z .val s, g .val a a<k (closed k (inv a) h e q) s, canonical-value w (act t x s) k h, e);
+      }
   one-sound k m h g p (bin o a b) e q =
       let lt : (a < k) × (b < k) = op-earlier w k (bin o a b) h e in
       let qs = closed k (bin o a b) h e q in
       let z = add-sound (g .canonical) (bin o (getD (m .new) a 0) (getD (m .new) b 0)) (g .low a, g .low b) in
-      record { canonical = z .canonical; low = z .low; val = λ s. cc (z .val s, g .val a (lt .0) (qs .0) s, g .val b (lt .1) (qs .1) s, canonical-value w (act t x s) k h, e) }
+      record {
+        canonical = z .canonical;
+        low = z .low;
+        val = λ s. cc (
+          z .val s,
+          g .val a (lt .0) (qs .0) s,
+          g .val b (lt .1) (qs .1) s,
+          canonical-value w (act t x s) k h,
+          e,
+        );
+      }
 
   -- One turn keeps the stage.
-  stage-row : (k : ℕ) (m : Carried) → k < length u → Stage C t x u y k m → Ext t (m .tab) → (b : Bool) → reaches u y k ≡ b → Stage C t x u y (suc k) (carryRow add x m (rowAt u k) b)
+  stage-row : (k : ℕ) (m : Carried) → k < length u → Stage C t x u y k m → Ext t (m .tab) → (b : Bool) → reaches u y k ≡ b
+      → Stage C t x u y (suc k) (carryRow add x m (rowAt u k) b)
   stage-row k m h g p false q = record {
     canonical = g .canonical;
     size = snoc-length (m .new) 0 k (g .size);
     low = snoc-low (m .new) 0 (length (m .tab)) (length (m .tab)) (g .low) (omega arith) (omega (arith, g .canonical .long));
-    val = snoc-each (λ i n. reaches u y i ≡ true → (s : List Bool) → value (m .tab) s n ≡ value u (act t x s) i) (m .new) 0 k (g .size) (g .val) (λ z s. cc);
+    val = snoc-each (λ i n. reaches u y i ≡ true → (s : List Bool) → value (m .tab) s n ≡ value u (act t x s) i) (m .new) 0 k
+        (g .size) (g .val) (λ z s. cc);
   }
   stage-row k m h g p true q =
       let a = carryOne add x m (rowAt u k) in
@@ -159,15 +184,22 @@ module _ {C : ℕ} (t : List Row) (x : List ℕ) (u : List Row) (y : List ℕ) (
         canonical = z .canonical;
         size = snoc-length (m .new) (a .row) k (g .size);
         low = snoc-low (m .new) (a .row) (length (a .tab)) (length (m .tab)) (g .low) (ext-length more) (z .low);
-        val = snoc-each (λ i n. reaches u y i ≡ true → (s : List Bool) → value (a .tab) s n ≡ value u (act t x s) i) (m .new) (a .row) k (g .size)
+        val = snoc-each (λ i n. reaches u y i ≡ true → (s : List Bool) → value (a .tab) s n ≡ value u (act t x s) i) (m .new)
+            (a .row) k (g .size)
             (λ i l f s. ext-value more s (getD (m .new) i 0) (g .low i) ∙ g .val i l f s) (λ f. z .val);
       }
 
   stages : (k : ℕ) → k ≤ length u → Stage C t x u y k (carry add t x u y k)
   unfolding carry
-  stages zero h = record { canonical = X .canonical; size = refl; low = λ i. omega (arith, X .canonical .long); val = λ i j. absurd (omega arith) }
+  stages zero h = record {
+    canonical = X .canonical;
+    size = refl;
+    low = λ i. omega (arith, X .canonical .long);
+    val = λ i j. absurd (omega arith);
+  }
   stages (suc k) h =
-      stage-row k (carry add t x u y k) (omega arith) (stages k (omega arith)) (grown-ext (carry-grown t x u y k)) (reaches u y k) refl
+      stage-row k (carry add t x u y k) (omega arith) (stages k (omega arith)) (grown-ext (carry-grown t x u y k))
+      (reaches u y k) refl
 
 -- The law of composition: a set after another stands, and evaluates as first then second.
 pub after-acts : {C : ℕ} (t : List Row) (x : List ℕ) (u : List Row) (y : List ℕ) → Stands C (over t x) → Stands C (over u y)

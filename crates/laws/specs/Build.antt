@@ -52,8 +52,13 @@ addExp-sound {t = t} w (bin o x y) h =
     let q = addExp (p .tab) y in
     let b = addExp-sound (a .canonical) y (h .1) in
     let more = grown-ext (addExp-grown (p .tab) y) in
-    let n = add-sound (b .canonical) (Rattle.rules.specs.Rows.bin o (p .row) (q .row)) (omega (arith, a .low, ext-length more), b .low) in
-    record { canonical = n .canonical; low = n .low; val = λ s. cc (n .val s, a .val s, b .val s, ext-value more s (p .row) (a .low)) }
+    let n = add-sound (b .canonical) (Rattle.rules.specs.Rows.bin o (p .row) (q .row))
+    (omega (arith, a .low, ext-length more), b .low) in
+    record {
+      canonical = n .canonical;
+      low = n .low;
+      val = λ s. cc (n .val s, a .val s, b .val s, ext-value more s (p .row) (a .low));
+    }
 
 -- ---- the table of effects names only cells
 
@@ -71,7 +76,8 @@ put-over k b x g c h p = go (eqb c b)
     go true = h
     go false = p
 
-stack-over : (sh : Shape) (g : ℕ → Exp) (c : ℕ) → c < cells sh → ((k : ℕ) → k ≤ sh .depth → Over (cells sh) (g k)) → Over (cells sh) (stack sh g c)
+stack-over : (sh : Shape) (g : ℕ → Exp) (c : ℕ) → c < cells sh → ((k : ℕ) → k ≤ sh .depth → Over (cells sh) (g k))
+    → Over (cells sh) (stack sh g c)
 unfolding stack
 stack-over sh g c h p = go (ltb (flag sh) c) refl
   where
@@ -89,10 +95,13 @@ pushed-over sh x c h o = stack-over sh _ c h (λ k p. cond-over (cells sh) (eqb 
 
 popped-over : (sh : Shape) (c : ℕ) → c < cells sh → Over (cells sh) (popped sh c)
 unfolding popped
-popped-over sh c h = stack-over sh _ c h (λ k p. cond-over (cells sh) (eqb k (sh .depth)) (con false) (e sh (suc k)) tt (λ q. let n : k ≡ sh .depth → ⊥ = eqb-false k (sh .depth) q in omega arith))
+popped-over sh c h = stack-over sh _ c h
+    (λ k p. cond-over (cells sh) (eqb k (sh .depth)) (con false) (e sh (suc k)) tt (λ q. let n : k ≡ sh .depth
+    → ⊥ = eqb-false k (sh .depth) q in omega arith))
 
 -- Every cell's expression names only cells.
-effect-over : (sh : Shape) → 2 ≤ sh .depth → (p : Plain) → Names (vars sh) p → (c : ℕ) → c < cells sh → Over (cells sh) (effect sh p c)
+effect-over : (sh : Shape) → 2 ≤ sh .depth → (p : Plain) → Names (vars sh) p → (c : ℕ) → c < cells sh
+    → Over (cells sh) (effect sh p c)
 unfolding effect
 effect-over sh d INIT n c h = put-over (cells sh) (flag sh) (con true) _ c tt (stack-over sh _ c h (λ k p. tt))
 effect-over sh d NOT n c h = put-over (cells sh) (flag sh) _ keep c (omega arith) h
@@ -102,17 +111,23 @@ effect-over sh d PUSH n c h = pushed-over sh _ c h (omega arith)
 effect-over sh d POP n c h = put-over (cells sh) (flag sh) _ (popped sh) c (omega arith) (popped-over sh c h)
 effect-over sh d DROP n c h = popped-over sh c h
 effect-over sh d DUP n c h = pushed-over sh _ c h (omega arith)
-effect-over sh d FSWP n c h = put-over (cells sh) (flag sh) _ _ c (omega arith) (put-over (cells sh) (flag sh + 1) _ keep c (omega arith) h)
-effect-over sh d ESWP n c h = put-over (cells sh) (flag sh + 1) _ _ c (omega arith) (put-over (cells sh) (flag sh + 2) _ keep c (omega arith) h)
+effect-over sh d FSWP n c h = put-over (cells sh) (flag sh) _ _ c (omega arith)
+    (put-over (cells sh) (flag sh + 1) _ keep c (omega arith) h)
+effect-over sh d ESWP n c h = put-over (cells sh) (flag sh + 1) _ _ c (omega arith)
+    (put-over (cells sh) (flag sh + 2) _ keep c (omega arith) h)
 effect-over sh d (LOAD x) n c h = put-over (cells sh) (flag sh) x keep c (over-more (vars sh) (cells sh) x (omega arith) n) h
-effect-over sh d (AND x) n c h = put-over (cells sh) (flag sh) _ keep c (omega arith, over-more (vars sh) (cells sh) x (omega arith) n) h
-effect-over sh d (OR x) n c h = put-over (cells sh) (flag sh) _ keep c (omega arith, over-more (vars sh) (cells sh) x (omega arith) n) h
+effect-over sh d (AND x) n c h = put-over (cells sh) (flag sh) _ keep c
+    (omega arith, over-more (vars sh) (cells sh) x (omega arith) n) h
+effect-over sh d (OR x) n c h = put-over (cells sh) (flag sh) _ keep c
+    (omega arith, over-more (vars sh) (cells sh) x (omega arith) n) h
 effect-over sh d (EPUSH x) n c h = pushed-over sh x c h (over-more (vars sh) (cells sh) x (omega arith) n)
 effect-over sh d (STORE b) n c h = put-over (cells sh) b _ keep c (omega arith) h
 effect-over sh d (SET b) n c h = put-over (cells sh) b _ keep c (omega arith, omega arith) h
 effect-over sh d (RES b) n c h = put-over (cells sh) b _ keep c (omega arith, omega arith) h
-effect-over sh d (REDGE b) n c h = put-over (cells sh) (flag sh) _ _ c (omega arith, omega arith) (put-over (cells sh) b _ keep c (omega arith) h)
-effect-over sh d (FEDGE b) n c h = put-over (cells sh) (flag sh) _ _ c (omega arith, omega arith) (put-over (cells sh) b _ keep c (omega arith) h)
+effect-over sh d (REDGE b) n c h = put-over (cells sh) (flag sh) _ _ c (omega arith, omega arith)
+    (put-over (cells sh) b _ keep c (omega arith) h)
+effect-over sh d (FEDGE b) n c h = put-over (cells sh) (flag sh) _ _ c (omega arith, omega arith)
+    (put-over (cells sh) b _ keep c (omega arith) h)
 
 all-map-from : {A : Type 0} (P : A → Type 0) (g : ℕ → A) (i n : ℕ) → ((c : ℕ) → c < i + n → P (g c)) → All P (map g (from i n))
 unfolding from
@@ -126,14 +141,17 @@ unfolding own
 own-grown t sh p = each-grown addExp addExp-grown t (effects sh p)
 
 -- An instruction's own set evaluates to what the instruction does.
-pub own-acts : (t : List Row) (sh : Shape) → 2 ≤ sh .depth → Canonical (cells sh) t → (p : Plain) → Names (vars sh) p → Acts (cells sh) (own t sh p) (perform sh p)
+pub own-acts : (t : List Row) (sh : Shape) → 2 ≤ sh .depth → Canonical (cells sh) t → (p : Plain) → Names (vars sh) p
+    → Acts (cells sh) (own t sh p) (perform sh p)
 unfolding own effects perform
 own-acts t sh d w p n =
     let xs = map (effect sh p) (from 0 (cells sh)) in
-    owed-acts (each-owed addExp addExp-grown t eval xs good t (ext-refl t) w) (each-count addExp addExp-grown t xs ∙ length-map (from 0 (cells sh)) (effect sh p) ∙ length-from 0 (cells sh))
+    owed-acts (each-owed addExp addExp-grown t eval xs good t (ext-refl t) w)
+    (each-count addExp addExp-grown t xs ∙ length-map (from 0 (cells sh)) (effect sh p) ∙ length-from 0 (cells sh))
   where
     good : All (Good (cells sh) addExp t eval) (map (effect sh p) (from 0 (cells sh)))
-    good = all-map-from (Good (cells sh) addExp t eval) (effect sh p) 0 (cells sh) (λ c h u q v. addExp-sound v (effect sh p c) (effect-over sh d p n c (omega arith)))
+    good = all-map-from (Good (cells sh) addExp t eval) (effect sh p) 0 (cells sh)
+        (λ c h u q v. addExp-sound v (effect sh p c) (effect-over sh d p n c (omega arith)))
 
 -- ---- tables only grow
 

@@ -47,7 +47,8 @@ module _ {A : Type 0} (put : List Row → A → Added) (grown : (t : List Row) (
   each-count t (x ∷ xs) = ap suc (each-count (put t x .tab) xs)
 
   -- Where each addition is sound in every table that continues t, so are the heads made of all of them.
-  pub each-owed : {C : ℕ} (t : List Row) (v : List Bool → A → Bool) (xs : List A) → All (Good C put t v) xs → (u : List Row) → Ext t u → Canonical C u
+  pub each-owed : {C : ℕ} (t : List Row) (v : List Bool → A → Bool) (xs : List A) → All (Good C put t v) xs → (u : List Row)
+      → Ext t u → Canonical C u
       → Owed C (each put u xs) (λ s. map (v s) xs)
   unfolding each act
   each-owed t v [] g u p w = record { canonical = w; low = λ c. omega (arith, w .long); val = λ s. refl }
@@ -100,7 +101,8 @@ fourRows-sound {C} {t} w f x y hf hx hy =
     let sa = add-sound (sn .canonical) (bin true f x) (omega (arith, ext-length en), omega (arith, ext-length en)) in
     let b = add (a .tab) (bin true (n .row) y) in
     let eb = add-extends (a .tab) (bin true (n .row) y) in
-    let sb = add-sound (sa .canonical) (bin true (n .row) y) (omega (arith, sn .low, ext-length ea), omega (arith, ext-length en, ext-length ea)) in
+    let sb = add-sound (sa .canonical) (bin true (n .row) y)
+    (omega (arith, sn .low, ext-length ea), omega (arith, ext-length en, ext-length ea)) in
     let sc = add-sound (sb .canonical) (bin false (a .row) (b .row)) (omega (arith, sa .low, ext-length eb), sb .low) in
     record {
       canonical = sc .canonical;
@@ -129,8 +131,15 @@ choose-sound : {C : ℕ} {t : List Row} → Canonical C t → (f x y : ℕ) → 
 unfolding choose
 choose-sound {C} {t} w f x y hf hx hy = go (eqb x y) refl
   where
-    go : (q : Bool) → eqb x y ≡ q → Sound C (cond q (record { tab = t; row = x }) (fourRows t f x y)) (λ s. cond (value t s f) (value t s x) (value t s y))
-    go true e = record { canonical = w; low = hx; val = λ s. cond-same (value t s f) (value t s x) (value t s y) (ap (value t s) (eqb-true x y e)) }
+    go : (q : Bool) → eqb x y ≡ q
+        → Sound C (cond q (record { tab = t; row = x }) (fourRows t f x y))
+        (λ s. cond (value t s f) (value t s x) (value t s y))
+    go true e = record {
+      canonical = w;
+      low = hx;
+      val = λ s. cond-same (value t s f) (value t s x) (value t s y)
+          (ap (value t s) (eqb-true x y e));
+    }
     go false e = fourRows-sound w f x y hf hx hy
 
 pub choice-grown : (t : List Row) (f : ℕ) (x y : List ℕ) → Grown t (choice t f x y .tab)
@@ -143,7 +152,8 @@ length-zip [] y e = refl
 length-zip (a ∷ x) [] e = absurd (omega arith)
 length-zip (a ∷ x) (b ∷ y) e = ap suc (length-zip x y (omega arith))
 
-map-zip : (g : ℕ → Bool) (f : Bool) (x y : List ℕ) → length x ≡ length y → map (λ (p : ℕ × ℕ). cond f (g (p .0)) (g (p .1))) (zip x y) ≡ cond f (map g x) (map g y)
+map-zip : (g : ℕ → Bool) (f : Bool) (x y : List ℕ) → length x ≡ length y
+    → map (λ (p : ℕ × ℕ). cond f (g (p .0)) (g (p .1))) (zip x y) ≡ cond f (map g x) (map g y)
 unfolding zip zipWith
 map-zip g true [] y e = refl
 map-zip g true (a ∷ x) [] e = absurd (omega arith)
@@ -153,7 +163,8 @@ map-zip g false [] (b ∷ y) e = absurd (omega arith)
 map-zip g false (a ∷ x) [] e = absurd (omega arith)
 map-zip g false (a ∷ x) (b ∷ y) e = ap (λ l. g b ∷ l) (map-zip g false x y (omega arith))
 
-all-zip : (P : ℕ × ℕ → Type 0) (n : ℕ) (x y : List ℕ) → ((a b : ℕ) → a < n → b < n → P (a, b)) → ((c : ℕ) → getD x c 0 < n) → ((c : ℕ) → getD y c 0 < n) → All P (zip x y)
+all-zip : (P : ℕ × ℕ → Type 0) (n : ℕ) (x y : List ℕ) → ((a b : ℕ) → a < n → b < n → P (a, b)) → ((c : ℕ) → getD x c 0 < n)
+    → ((c : ℕ) → getD y c 0 < n) → All P (zip x y)
 unfolding zip zipWith
 all-zip P n [] y g hx hy = tt
 all-zip P n (a ∷ x) [] g hx hy = tt
@@ -168,14 +179,24 @@ choice-acts {C} t f x y h X Y =
     let grown : (u : List Row) (p : ℕ × ℕ) → Grown u (put u p .tab) = λ u p. choose-grown u f (p .0) (p .1) in
     let v : List Bool → ℕ × ℕ → Bool = λ s p. cond (value t s f) (value t s (p .0)) (value t s (p .1)) in
     let same : length x ≡ length y = X .count ∙ sym (Y .count) in
-    let o = each-owed put grown t v (zip x y) (all-zip (Good C put t v) (length t) x y good (X .low) (Y .low)) t (ext-refl t) (X .canonical) in
-    owed-acts (record { canonical = o .canonical; low = o .low; val = λ s. o .val s ∙ by s }) (each-count put grown t (zip x y) ∙ length-zip x y same ∙ X .count)
+    let o = each-owed put grown t v (zip x y) (all-zip (Good C put t v) (length t) x y good (X .low) (Y .low)) t (ext-refl t)
+    (X .canonical) in
+    owed-acts (record { canonical = o .canonical; low = o .low; val = λ s. o .val s ∙ by s })
+    (each-count put grown t (zip x y) ∙ length-zip x y same ∙ X .count)
   where
-    good : (a b : ℕ) → a < length t → b < length t → Good C (λ u (p : ℕ × ℕ). choose u f (p .0) (p .1)) t (λ s p. cond (value t s f) (value t s (p .0)) (value t s (p .1))) (a, b)
+    good : (a b : ℕ) → a < length t → b < length t
+        → Good C (λ u (p : ℕ × ℕ). choose u f (p .0) (p .1)) t
+        (λ s p. cond (value t s f) (value t s (p .0)) (value t s (p .1))) (a, b)
     good a b ha hb u p w =
         let n = ext-length p in
         let z = choose-sound w f a b (omega arith) (omega arith) (omega arith) in
-        record { canonical = z .canonical; low = z .low; val = λ s. cc (z .val s, ext-value p s f h, ext-value p s a ha, ext-value p s b hb) }
+        record {
+          canonical = z .canonical;
+          low = z .low;
+          val = λ s. cc (z .val s, ext-value p s f h, ext-value p s a ha, ext-value p s b hb);
+        }
 
-    by : (s : List Bool) → map (λ (p : ℕ × ℕ). cond (value t s f) (value t s (p .0)) (value t s (p .1))) (zip x y) ≡ cond (value t s f) (act t x s) (act t y s)
+    by : (s : List Bool)
+        → map (λ (p : ℕ × ℕ). cond (value t s f) (value t s (p .0)) (value t s (p .1))) (zip x y) ≡ cond (value t s f)
+        (act t x s) (act t y s)
     by s = map-zip (value t s) (value t s f) x y (X .count ∙ sym (Y .count))

@@ -49,10 +49,18 @@ module _ (sh : Shape) (h : Heads) (H : Stands (cells sh) h) where
   unfolding setOf
   setOf-proper e c room =
       let w = squeeze-stands H in
-      record { shaped = c; canonical = w .canonical; count = w .count; rows = w .low; names = squeeze-named H; room = omega (arith, squeeze-few H) }
+      record {
+        shaped = c;
+        canonical = w .canonical;
+        count = w .count;
+        rows = w .low;
+        names = squeeze-named H;
+        room = omega (arith, squeeze-few H);
+      }
 
 -- A set with a file is what its own heads are.
-pub setOf-fixed : (z : TransferSet) → Whole z → ((k : ℕ) → leaves (z .shape) ≤ k → k < length (z .tab) → named (z .tab) (z .heads) k ≡ true)
+pub setOf-fixed : (z : TransferSet) → Whole z
+    → ((k : ℕ) → leaves (z .shape) ≤ k → k < length (z .tab) → named (z .tab) (z .heads) k ≡ true)
     → setOf (z .shape) (over (z .tab) (z .heads)) ≡ z
 unfolding setOf
 setOf-fixed z w n = ap (λ (h : Heads). record { shape = z .shape; tab = h .tab; heads = h .heads }) (squeeze-fixed w n)
@@ -70,22 +78,26 @@ module _ (X Y : TransferSet) (same : X .shape ≡ Y .shape) (x : Whole X) (y : W
   composed-stands = composed-acts .stands
 
   -- A composed set evaluates as the first and then the second.
-  pub compose-value : (s : List Bool) → length s ≡ cells (X .shape) → evaluateSet (composeSets X Y) s ≡ evaluateSet Y (evaluateSet X s)
+  pub compose-value : (s : List Bool) → length s ≡ cells (X .shape)
+      → evaluateSet (composeSets X Y) s ≡ evaluateSet Y (evaluateSet X s)
   compose-value s e = setOf-acts (X .shape) (composed X Y) (composed-acts .stands) s e ∙ composed-acts .val s
 
 -- Either grouping of three sets has equal values on every storage.
-pub compose-grouping : (X Y Z : TransferSet) → X .shape ≡ Y .shape → Y .shape ≡ Z .shape → Whole X → Whole Y → Whole Z → (s : List Bool) → length s ≡ cells (X .shape)
+pub compose-grouping : (X Y Z : TransferSet) → X .shape ≡ Y .shape → Y .shape ≡ Z .shape → Whole X → Whole Y → Whole Z
+    → (s : List Bool) → length s ≡ cells (X .shape)
     → evaluateSet (composeSets (composeSets X Y) Z) s ≡ evaluateSet (composeSets X (composeSets Y Z)) s
 unfolding setOf
 compose-grouping X Y Z p q x y z s e =
     compose-value (composeSets X Y) Z (p ∙ q) (compose-whole X Y p x y) z s e
     ∙ ap (evaluateSet Z) (compose-value X Y p x y s e)
-    ∙ sym (compose-value X (composeSets Y Z) p x (compose-whole Y Z q y z) s e ∙ compose-value Y Z q y z (evaluateSet X s) (evaluate-length X x s ∙ ap cells p))
+    ∙ sym (compose-value X (composeSets Y Z) p x (compose-whole Y Z q y z) s e
+    ∙ compose-value Y Z q y z (evaluateSet X s) (evaluate-length X x s ∙ ap cells p))
 
 -- ---- the unchanging set on each side
 
 -- The unchanging set before another gives the other.
-pub unchanging-before : (z : TransferSet) → Whole z → ((k : ℕ) → leaves (z .shape) ≤ k → k < length (z .tab) → named (z .tab) (z .heads) k ≡ true)
+pub unchanging-before : (z : TransferSet) → Whole z
+    → ((k : ℕ) → leaves (z .shape) ≤ k → k < length (z .tab) → named (z .tab) (z .heads) k ≡ true)
     → composeSets (unchangingSet (z .shape)) z ≡ z
 unchanging-before z w n = ap (setOf (z .shape)) (sym (squeeze-after w) ∙ squeeze-fixed w n) ∙ setOf-fixed z w n
 
@@ -96,14 +108,17 @@ record Left (C : ℕ) (t : List Row) (x : List ℕ) (k : ℕ) (m : Carried) : Ty
   same : (i : ℕ) → i < k → reaches (base C) (unchanging C) i ≡ true → getD (m .new) i 0 ≡ getD (0 ∷ 1 ∷ x) i 0
 
 module _ (C : ℕ) (t : List Row) (x : List ℕ) where
-  left-row : (k : ℕ) (m : Carried) → Left C t x k m → k < 2 + C → (b : Bool) → reaches (base C) (unchanging C) k ≡ b → Left C t x (suc k) (carryRow add x m (rowAt (base C) k) b)
+  left-row : (k : ℕ) (m : Carried) → Left C t x k m → k < 2 + C → (b : Bool) → reaches (base C) (unchanging C) k ≡ b
+      → Left C t x (suc k) (carryRow add x m (rowAt (base C) k) b)
   left-row k m g h b q = go b q
     where
-      one : (a : ℕ) → (reaches (base C) (unchanging C) k ≡ true → a ≡ getD (0 ∷ 1 ∷ x) k 0) → Left C t x (suc k) (record { tab = m .tab; new = m .new ++ (a ∷ []) })
+      one : (a : ℕ) → (reaches (base C) (unchanging C) k ≡ true → a ≡ getD (0 ∷ 1 ∷ x) k 0)
+          → Left C t x (suc k) (record { tab = m .tab; new = m .new ++ (a ∷ []) })
       one a p = record {
         size = snoc-length (m .new) a k (g .size);
         tab = g .tab;
-        same = snoc-each (λ i n. reaches (base C) (unchanging C) i ≡ true → n ≡ getD (0 ∷ 1 ∷ x) i 0) (m .new) a k (g .size) (g .same) p;
+        same = snoc-each (λ i n. reaches (base C) (unchanging C) i ≡ true → n ≡ getD (0 ∷ 1 ∷ x) i 0) (m .new) a k (g .size)
+            (g .same) p;
       }
 
       go : (b : Bool) → reaches (base C) (unchanging C) k ≡ b → Left C t x (suc k) (carryRow add x m (rowAt (base C) k) b)
@@ -113,7 +128,8 @@ module _ (C : ℕ) (t : List Row) (x : List ℕ) where
   left-carried : (k : ℕ) → k ≤ 2 + C → Left C t x k (carry add t x (base C) (unchanging C) k)
   unfolding carry
   left-carried zero h = record { size = refl; tab = refl; same = λ i p. absurd (omega arith) }
-  left-carried (suc k) h = left-row k (carry add t x (base C) (unchanging C) k) (left-carried k (omega arith)) (omega arith) (reaches (base C) (unchanging C) k) refl
+  left-carried (suc k) h = left-row k (carry add t x (base C) (unchanging C) k) (left-carried k (omega arith)) (omega arith)
+      (reaches (base C) (unchanging C) k) refl
 
   -- The unchanging set after another leaves its table and its heads.
   after-unchanging : length x ≡ C → after t x (base C) (unchanging C) ≡ over t x
@@ -129,10 +145,15 @@ module _ (C : ℕ) (t : List Row) (x : List ℕ) where
           rw p at (elem-at (from 2 C) c 0 (omega (arith, length-from 2 C)))
 
       heads : (m : Carried) → Left C t x (length (base C)) m → map (λ h. getD (m .new) h 0) (from 2 C) ≡ x
-      heads m g = map-shift (λ h. getD (m .new) h 0) 1 C ∙ map-shift (λ h. getD (m .new) (suc h) 0) 0 C ∙ ap (λ n. map (λ h. getD (m .new) (suc (suc h)) 0) (from 0 n)) (sym e)
-          ∙ map-from (λ h. getD (m .new) (suc (suc h)) 0) 0 x (λ c h. g .same (rowOfCell c) (omega (arith, length-base C)) (needs-keeps (base C) (length (base C)) (rowOfCell c) (from 2 C) (head c (omega arith))))
+      heads m g = map-shift (λ h. getD (m .new) h 0) 1 C ∙ map-shift (λ h. getD (m .new) (suc h) 0) 0 C
+          ∙ ap (λ n. map (λ h. getD (m .new) (suc (suc h)) 0) (from 0 n)) (sym e)
+          ∙ map-from (λ h. getD (m .new) (suc (suc h)) 0) 0 x
+          (λ c h. g .same (rowOfCell c) (omega (arith, length-base C))
+          (needs-keeps (base C) (length (base C)) (rowOfCell c) (from 2 C) (head c (omega arith))))
 
 -- The unchanging set after another gives the other.
-pub unchanging-after : (z : TransferSet) → Whole z → ((k : ℕ) → leaves (z .shape) ≤ k → k < length (z .tab) → named (z .tab) (z .heads) k ≡ true)
+pub unchanging-after : (z : TransferSet) → Whole z
+    → ((k : ℕ) → leaves (z .shape) ≤ k → k < length (z .tab) → named (z .tab) (z .heads) k ≡ true)
     → composeSets z (unchangingSet (z .shape)) ≡ z
-unchanging-after z w n = ap (setOf (z .shape)) (after-unchanging (cells (z .shape)) (z .tab) (z .heads) (w .count)) ∙ setOf-fixed z w n
+unchanging-after z w n = ap (setOf (z .shape)) (after-unchanging (cells (z .shape)) (z .tab) (z .heads) (w .count))
+    ∙ setOf-fixed z w n

@@ -43,20 +43,23 @@ finish-granted e sh rows out h bytes q =
     (ltb-false (room rows) (length (h .tab)) (a .0), cc)
 
 -- So it is accepted, and reads back as that set, with the shape it was made for.
-finish-read : (e : Edition) → Sensible e → (sh : Shape) (rows out : ℕ) (h : Heads) (bytes : List ℕ) → Stands (cells sh) h → checkShape e sh ≡ granted tt
+finish-read : (e : Edition) → Sensible e → (sh : Shape) (rows out : ℕ) (h : Heads) (bytes : List ℕ) → Stands (cells sh) h
+    → checkShape e sh ≡ granted tt
     → finish e sh rows out h ≡ granted bytes → readSet e bytes ≡ granted (setOf sh h)
 finish-read e s sh rows out h bytes H c q =
     let f = finish-granted e sh rows out h bytes q in
     ap (readSet e) (f .1) ∙ read-write e s (setOf sh h) (setOf-proper sh h H e c (omega (arith, f .0)))
 
 -- The file that building writes is accepted, and is the program's set.
-pub build-accepted : (e : Edition) → Sensible e → (file : List ℕ) (rows numbers heads out : ℕ) (P : Program) (bytes : List ℕ) → readProgram e file ≡ granted P
+pub build-accepted : (e : Edition) → Sensible e → (file : List ℕ) (rows numbers heads out : ℕ) (P : Program) (bytes : List ℕ)
+    → readProgram e file ≡ granted P
     → build e file rows numbers heads out ≡ granted bytes → readSet e bytes ≡ granted (programSet P)
 unfolding build
 build-accepted e s file rows numbers heads out P bytes p q =
     let c = check-granted (ltb rows (leaves (P .shape))) 10 0 _ (rw p at q) in
     let d = check-granted (ltb numbers (numbersToBuild rows) || ltb heads (headsToBuild P)) 10 0 _ (c .1) in
-    finish-read e s (P .shape) rows out (transfer P) bytes (transfer-stands P (read-wellformed e file P p)) (read-shape e file P p) (d .1)
+    finish-read e s (P .shape) rows out (transfer P) bytes (transfer-stands P (read-wellformed e file P p))
+    (read-shape e file P p) (d .1)
 
 -- Shapes that are found to be the same are equal.
 same-shape : (a b : Shape) → sameShape a b ≡ true → a ≡ b
@@ -76,8 +79,10 @@ pub record Composes (e : Edition) (X Y : TransferSet) (bytes : List ℕ) : Type 
   pub accepted : readSet e bytes ≡ granted (composeSets X Y)
   pub written : bytes ≡ writeSet e (composeSets X Y)
 
-pub compose-accepted : (e : Edition) → Sensible e → (first second : List ℕ) (rows numbers out : ℕ) (X Y : TransferSet) (bytes : List ℕ)
-    → readSet e first ≡ granted X → readSet e second ≡ granted Y → compose e first second rows numbers out ≡ granted bytes → Composes e X Y bytes
+pub compose-accepted : (e : Edition) → Sensible e
+    → (first second : List ℕ) (rows numbers out : ℕ) (X Y : TransferSet) (bytes : List ℕ)
+    → readSet e first ≡ granted X → readSet e second ≡ granted Y → compose e first second rows numbers out ≡ granted bytes
+    → Composes e X Y bytes
 unfolding compose
 compose-accepted e s first second rows numbers out X Y bytes x y q =
     let c = check-granted (not (sameShape (X .shape) (Y .shape))) 12 0 _ (rw (x, y) at q) in
@@ -107,7 +112,8 @@ program-leaves P w s e =
     record { steps = d .steps; few = omega (arith, rw sub-zero at (d .few)); stops = d .runs [] ∙ ap stopped (sym v) }
 
 -- So a granted scan leaves the same storage.
-pub scan-leaves : (P : Program) → WellFormed P → (s : List Bool) → length s ≡ cells (P .shape) → (budget : ℕ) (y : Scanned) → scanProgram P budget s ≡ granted y
+pub scan-leaves : (P : Program) → WellFormed P → (s : List Bool) → length s ≡ cells (P .shape) → (budget : ℕ) (y : Scanned)
+    → scanProgram P budget s ≡ granted y
     → y .storage ≡ evaluateSet (programSet P) s
 scan-leaves P w s e budget y q =
     let l = program-leaves P w s e in
@@ -125,7 +131,8 @@ storage-length C storage =
     grants (length-map storage (eqb 1) ∙ eqb-true (length storage) C (not-false (eqb (length storage) C) q))
 
 -- A granted evaluation hands back what evaluating the set gives.
-evaluate-value : (e : Edition) (file storage : List ℕ) (lent : ℕ) (z : TransferSet) (s v : List Bool) → readSet e file ≡ granted z
+evaluate-value : (e : Edition) (file storage : List ℕ) (lent : ℕ) (z : TransferSet) (s v : List Bool)
+    → readSet e file ≡ granted z
     → checkStorage (cells (z .shape)) storage ≡ granted s → evaluate e file storage lent ≡ granted v → v ≡ evaluateSet z s
 unfolding evaluate
 evaluate-value e file storage lent z s v r c q =
@@ -133,8 +140,10 @@ evaluate-value e file storage lent z s v r c q =
     cc
 
 -- The same of files: where a program is built, evaluating the file written gives the storage that a granted scan leaves.
-pub evaluate-is-scan : (e : Edition) → Sensible e → (file : List ℕ) (rows numbers heads out : ℕ) (bytes : List ℕ) → build e file rows numbers heads out ≡ granted bytes
-    → (storage : List ℕ) (budget lent : ℕ) (y : Scanned) (v : List Bool) → scan e file storage budget ≡ granted y → evaluate e bytes storage lent ≡ granted v → v ≡ y .storage
+pub evaluate-is-scan : (e : Edition) → Sensible e → (file : List ℕ) (rows numbers heads out : ℕ) (bytes : List ℕ)
+    → build e file rows numbers heads out ≡ granted bytes
+    → (storage : List ℕ) (budget lent : ℕ) (y : Scanned) (v : List Bool) → scan e file storage budget ≡ granted y
+    → evaluate e bytes storage lent ≡ granted v → v ≡ y .storage
 unfolding scan setOf
 evaluate-is-scan e sensible file rows numbers heads out bytes q storage budget lent y v sc ev =
     let (P, p, rest) = bind-granted (readProgram e file) _ sc in
@@ -145,7 +154,8 @@ evaluate-is-scan e sensible file rows numbers heads out bytes q storage budget l
 
 -- ---- the unchanging set gives back bytes
 
-module _ (e : Edition) (s : Sensible e) (file : List ℕ) (b : Bytes file) (z : TransferSet) (r : readSet e file ≡ granted z) where
+module _ (e : Edition) (s : Sensible e) (file : List ℕ) (b : Bytes file) (z : TransferSet)
+    (r : readSet e file ≡ granted z) where
   whole : Whole z
   whole = proper-whole (read-proper e file z r)
 
@@ -155,18 +165,27 @@ module _ (e : Edition) (s : Sensible e) (file : List ℕ) (b : Bytes file) (z : 
       let p = read-proper e file z r in
       let u = unchanging-stands (cells (z .shape)) in
       let size = length-base (cells (z .shape)) in
-      record { shaped = p .shaped; canonical = u .canonical; count = u .count; rows = u .low; names = λ k l h. absurd (omega arith); room = omega (arith, p .room, p .canonical .long) }
+      record {
+        shaped = p .shaped;
+        canonical = u .canonical;
+        count = u .count;
+        rows = u .low;
+        names = λ k l h. absurd (omega arith);
+        room = omega (arith, p .room, p .canonical .long);
+      }
 
   abbrev none : List ℕ
   none = writeSet e (unchangingSet (z .shape))
 
-  pub unchanging-first : (rows numbers out : ℕ) (bytes : List ℕ) → compose e none file rows numbers out ≡ granted bytes → bytes ≡ file
+  pub unchanging-first : (rows numbers out : ℕ) (bytes : List ℕ) → compose e none file rows numbers out ≡ granted bytes
+      → bytes ≡ file
   unchanging-first rows numbers out bytes q =
       let u = read-write e s (unchangingSet (z .shape)) unchanging-proper in
       compose-accepted e s none file rows numbers out (unchangingSet (z .shape)) z bytes u r q .written
       ∙ ap (writeSet e) (unchanging-before z whole (read-proper e file z r .names)) ∙ write-read e file b z r
 
-  pub unchanging-second : (rows numbers out : ℕ) (bytes : List ℕ) → compose e file none rows numbers out ≡ granted bytes → bytes ≡ file
+  pub unchanging-second : (rows numbers out : ℕ) (bytes : List ℕ) → compose e file none rows numbers out ≡ granted bytes
+      → bytes ≡ file
   unchanging-second rows numbers out bytes q =
       let u = read-write e s (unchangingSet (z .shape)) unchanging-proper in
       compose-accepted e s file none rows numbers out z (unchangingSet (z .shape)) bytes r u q .written

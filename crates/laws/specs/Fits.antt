@@ -97,7 +97,8 @@ operation t k (bin true a b) h e = record { back = refl; one = omega arith; two 
 operation t k (bin false a b) h e = record { back = refl; one = omega arith; two = omega arith }
 
 -- Reading at p the row that was written there.
-pub row-read : (k p : ℕ) (r : Row) (file rest : List ℕ) → k ≤ mostRows → Operation k r → drop p file ≡ rowBytes r ++ rest → rowIn file p ≡ r
+pub row-read : (k p : ℕ) (r : Row) (file rest : List ℕ) → k ≤ mostRows → Operation k r → drop p file ≡ rowBytes r ++ rest
+    → rowIn file p ≡ r
 row-read k p r file rest h o e =
     let a = bytesOf 2 (left r) in
     let b = bytesOf 2 (right r) in
@@ -128,7 +129,8 @@ row-bytes t k a b = go (eqb k 1 && eqb b 0) (eqb k 2) (eqb k 3) refl refl refl
         absurd (omega arith)
 
 -- Writing the row that was read at p.
-pub row-write : (t : List Row) (file : List ℕ) → Bytes file → (p : ℕ) → p + 5 ≤ length file → plan t (rowIn file p) ≡ make (rowIn file p)
+pub row-write : (t : List Row) (file : List ℕ) → Bytes file → (p : ℕ) → p + 5 ≤ length file
+    → plan t (rowIn file p) ≡ make (rowIn file p)
     → rowBytes (rowIn file p) ≡ take 5 (drop p file)
 row-write t file b p h n =
     let q : p + 3 ≡ p + 1 + 2 = omega arith in

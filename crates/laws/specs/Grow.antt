@@ -7,7 +7,6 @@ use native.Mathlib.Omega.{arith}
 use lib.ListN.{length, length-append, List·getD-append}
 use Rattle.rules.specs.Rows.{Row, leaf, rowAt, values, value, Plan, have, make, plan, insert, settle, add}
 use Rattle.laws.specs.Canonical.{Below}
-
 use Rattle.laws.specs.Rows.{Inserts, inserts, meaning, value-append, stood, fresh, rowValue-keep}
 
 -- u is t with more rows at its end.
@@ -19,7 +18,11 @@ pub ext-refl : (t : List Row) → Ext t t
 ext-refl t = record { more = []; is = sym (append-nil t) }
 
 pub ext-trans : {t u w : List Row} → Ext t u → Ext u w → Ext t w
-ext-trans {t} p q = record { more = p .more ++ q .more; is = q .is ∙ ap (λ x. x ++ q .more) (p .is) ∙ append-assoc t (p .more) (q .more) }
+ext-trans {t} p q = record {
+  more = p .more ++ q .more;
+  is = q .is ∙ ap (λ x. x ++ q .more) (p .is)
+      ∙ append-assoc t (p .more) (q .more);
+}
 
 pub ext-length : {t u : List Row} → Ext t u → length t ≤ length u
 ext-length {t} {u} p = omega (arith, ap length (p .is), length-append t (p .more))

@@ -26,7 +26,8 @@ getD-from i (suc n) (suc k) d h = getD-from (suc i) n k d (omega arith) ∙ omeg
 -- ---- maps, by the elements; the default stands for what is past the end
 
 module _ {A B : Type 0} where
-  pub map-ext : (g h : A → B) (d : A) (l : List A) → ((k : ℕ) → k < length l → g (getD l k d) ≡ h (getD l k d)) → map g l ≡ map h l
+  pub map-ext : (g h : A → B) (d : A) (l : List A) → ((k : ℕ) → k < length l → g (getD l k d) ≡ h (getD l k d))
+      → map g l ≡ map h l
   map-ext g h d [] e = refl
   map-ext g h d (x ∷ l) e = ap₂ {C = List B} _∷_ (e 0 (omega arith)) (map-ext g h d l (λ k p. e (suc k) (omega arith)))
 
@@ -50,7 +51,8 @@ module _ {A : Type 0} where
   pub map-from : (f : ℕ → A) (d : A) (l : List A) → ((k : ℕ) → k < length l → f k ≡ getD l k d) → map f (from 0 (length l)) ≡ l
   unfolding from
   map-from f d [] e = refl
-  map-from f d (x ∷ l) e = rw (map-shift f 0 (length l), e 0 (omega arith), map-from (λ k. f (suc k)) d l (λ k h. e (suc k) (omega arith)))
+  map-from f d (x ∷ l)
+      e = rw (map-shift f 0 (length l), e 0 (omega arith), map-from (λ k. f (suc k)) d l (λ k h. e (suc k) (omega arith)))
 
   -- The image of number k among those of the first n numbers.
   pub getD-map-from : (f : ℕ → A) (d : A) (n k : ℕ) → k < n → getD (map f (from 0 n)) k d ≡ f k
@@ -67,7 +69,8 @@ unfolding seek
 seek-none f zero i e k h = absurd (omega arith)
 seek-none f (suc n) i e k h = go (f i) refl e (seek-none f n (suc i)) k h
   where
-    go : (t : Bool) → f i ≡ t → i + suc n ≤ orElse t i (λ u. seek f n (suc i)) → (suc i + n ≤ seek f n (suc i) → (k : ℕ) → k < n → f (suc i + k) ≡ false)
+    go : (t : Bool) → f i ≡ t → i + suc n ≤ orElse t i (λ u. seek f n (suc i))
+        → (suc i + n ≤ seek f n (suc i) → (k : ℕ) → k < n → f (suc i + k) ≡ false)
         → (k : ℕ) → k < suc n → f (i + k) ≡ false
     go true q g rest k p = absurd (omega arith)
     go false q g rest zero p = rw add-zero q
@@ -91,7 +94,8 @@ pub none-search : (f : ℕ → Bool) (n : ℕ) → ((k : ℕ) → k < n → f k 
 none-search f n e = le-ltb (seek f n 0) n (omega (arith, seek-end f n 0 (λ k h. rw zero-add (e k h))))
 
 -- Where a search among the n numbers from l on for one that fails the test comes to the end, all of them pass it.
-pub search-all : (f : ℕ → Bool) (l n : ℕ) → ltb (seek (λ j. not (f (l + j))) n 0) n ≡ false → (i : ℕ) → l ≤ i → i < l + n → f i ≡ true
+pub search-all : (f : ℕ → Bool) (l n : ℕ) → ltb (seek (λ j. not (f (l + j))) n 0) n ≡ false → (i : ℕ) → l ≤ i → i < l + n
+    → f i ≡ true
 search-all f l n e i p q =
     let k : l + (i - l) ≡ i = omega arith in
     rw k at (not-false (f (l + (i - l))) (search-none (λ j. not (f (l + j))) n e (i - l) (omega arith)))

@@ -49,10 +49,16 @@ Tells P b n z (refused q p) = StillDue P b z q p
 -- Where the machine is stopped already, no step is counted.
 counts-none : (P : Program) (b n : ℕ) (s : List Bool) → Counts P b n (n - n) (stopped s) (record { steps = n; storage = s })
 counts-none P b n s =
-    record { least = omega arith; most = omega arith; stops = run-stopped P (n - n) s; not-sooner = λ j h. absurd (omega arith) }
+    record {
+      least = omega arith;
+      most = omega arith;
+      stops = run-stopped P (n - n) s;
+      not-sooner = λ j h. absurd (omega arith);
+    }
 
 -- A machine that is not stopped and then counts k steps counts one more.
-counts-more : (P : Program) (b n k i : ℕ) (s : List Bool) (r : List ℕ) (y : Scanned) → Counts P b (suc n) k (step P (due i s r)) y
+counts-more : (P : Program) (b n k i : ℕ) (s : List Bool) (r : List ℕ) (y : Scanned)
+    → Counts P b (suc n) k (step P (due i s r)) y
     → Counts P (suc b) n (suc k) (due i s r) y
 unfolding run
 counts-more P b n k i s r y c = record { least = omega arith; most = omega arith; stops = c .stops; not-sooner = sooner }
@@ -69,7 +75,8 @@ unfolding scanFrom run
 scan-tells P zero n (due i s r) = record { number = refl; storage = s; returns = r; after = refl }
 scan-tells P zero n (stopped s) = counts-none P 0 n s
 scan-tells P (suc b) n (stopped s) = counts-none P (suc b) n s
-scan-tells P (suc b) n (due i s r) = go (scanFrom P b (suc n) (step P (due i s r))) (scan-tells P b (suc n) (step P (due i s r)))
+scan-tells P (suc b) n (due i s r) = go (scanFrom P b (suc n) (step P (due i s r)))
+    (scan-tells P b (suc n) (step P (due i s r)))
   where
     go : (v : Verdict Scanned) → Tells P b (suc n) (step P (due i s r)) v → Tells P (suc b) n (due i s r) v
     go (granted y) c =
@@ -78,7 +85,8 @@ scan-tells P (suc b) n (due i s r) = go (scanFrom P b (suc n) (step P (due i s r
     go (refused q p) d = record { number = d .number; storage = d .storage; returns = d .returns; after = d .after }
 
 -- A scan that is granted reports the machine's own count.
-pub scan-counts : (P : Program) (b n : ℕ) (z : State) (y : Scanned) → scanFrom P b n z ≡ granted y → Counts P b n (y .steps - n) z y
+pub scan-counts : (P : Program) (b n : ℕ) (z : State) (y : Scanned) → scanFrom P b n z ≡ granted y
+    → Counts P b n (y .steps - n) z y
 scan-counts P b n z y e = rw e at (scan-tells P b n z)
 
 -- A whole scan that is granted reports the machine's own count.

@@ -163,7 +163,8 @@ wellformed e P n s a b l q =
         omega arith
 
 -- Both facts about a program that is read, from one walk through the reader.
-read-grants : (e : Edition) (file : List ℕ) → Grants (λ P. WellFormed P × (checkShape e (P .shape) ≡ granted tt)) (readProgram e file)
+read-grants : (e : Edition) (file : List ℕ)
+    → Grants (λ P. WellFormed P × (checkShape e (P .shape) ≡ granted tt)) (readProgram e file)
 unfolding readProgram
 read-grants e file =
     let n = numberAt 2 file (countAt e) in
@@ -181,5 +182,6 @@ pub read-wellformed : (e : Edition) (file : List ℕ) (P : Program) → readProg
 read-wellformed e file P h = grants-of (read-grants e file) h .0
 
 -- A program that was read has a shape that was checked.
-pub read-shape : (e : Edition) (file : List ℕ) (P : Program) → readProgram e file ≡ granted P → checkShape e (P .shape) ≡ granted tt
+pub read-shape : (e : Edition) (file : List ℕ) (P : Program) → readProgram e file ≡ granted P
+    → checkShape e (P .shape) ≡ granted tt
 read-shape e file P h = grants-of (read-grants e file) h .1

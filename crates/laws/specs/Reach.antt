@@ -51,7 +51,8 @@ module _ (t : List Row) (b : (i : ℕ) → i < length t → Below i (rowAt t i))
       go false = refl
 
   -- The operands of a needed row are needed.
-  pub needs-closed : (k i a : ℕ) (x : List ℕ) → k ≤ length t → i < k → elem i (needs t k x) ≡ true → elem a (operands (rowAt t i)) ≡ true → elem a (needs t k x) ≡ true
+  pub needs-closed : (k i a : ℕ) (x : List ℕ) → k ≤ length t → i < k → elem i (needs t k x) ≡ true
+      → elem a (operands (rowAt t i)) ≡ true → elem a (needs t k x) ≡ true
   unfolding needs
   needs-closed zero i a x h g e q = absurd (omega arith)
   needs-closed (suc k) i a x h g e q =
@@ -64,7 +65,8 @@ module _ (t : List Row) (b : (i : ℕ) → i < length t → Below i (rowAt t i))
           cc
 
       top : i ≡ k → elem a (needs t k (more t k x)) ≡ true
-      top z = needs-keeps t k a (more t k x) (put (elem k x) refl (sym (needs-high k k (more t k x) (omega arith) (omega arith)) ∙ rw z at e) z)
+      top z = needs-keeps t k a (more t k x)
+          (put (elem k x) refl (sym (needs-high k k (more t k x) (omega arith) (omega arith)) ∙ rw z at e) z)
 
 -- Every operand of a row has the property.
 abbrev pub Operands : (ℕ → Type 0) → Row → Type 0
@@ -73,7 +75,8 @@ Operands Q (inv a) = Q a
 Operands Q (bin o a b) = Q a × Q b
 
 -- The operands of a reached row are reached.
-pub reaches-operands : (t : List Row) → ((i : ℕ) → i < length t → Below i (rowAt t i)) → (x : List ℕ) (k : ℕ) (r : Row) → k < length t → rowAt t k ≡ r
+pub reaches-operands : (t : List Row) → ((i : ℕ) → i < length t → Below i (rowAt t i)) → (x : List ℕ) (k : ℕ) (r : Row)
+    → k < length t → rowAt t k ≡ r
     → reaches t x k ≡ true → Operands (λ a. reaches t x a ≡ true) r
 unfolding elem
 reaches-operands t b x k (leaf i) h e q = tt
@@ -95,11 +98,14 @@ unfolding needs
 needs-origin t zero j x e = inl e
 needs-origin t (suc k) j x e = go (needs-origin t k j (more t k x) e)
   where
-    old : (b : Bool) → elem j (operands (rowAt t k)) ≡ b → elem k x ≡ true → b || elem j x ≡ true → (elem j x ≡ true) ⊎ NamedBy t (suc k) j x
-    old true q m p = inr (record { by = k; low = omega arith; needed = needs-keeps t k k (more t k x) (more-keeps t k k x m); names = q })
+    old : (b : Bool) → elem j (operands (rowAt t k)) ≡ b → elem k x ≡ true → b || elem j x ≡ true
+        → (elem j x ≡ true) ⊎ NamedBy t (suc k) j x
+    old true q m p = inr
+        (record { by = k; low = omega arith; needed = needs-keeps t k k (more t k x) (more-keeps t k k x m); names = q })
     old false q m p = inl p
 
-    here : (b : Bool) → elem k x ≡ b → elem j (cond b (operands (rowAt t k) ++ x) x) ≡ true → (elem j x ≡ true) ⊎ NamedBy t (suc k) j x
+    here : (b : Bool) → elem k x ≡ b → elem j (cond b (operands (rowAt t k) ++ x) x) ≡ true
+        → (elem j x ≡ true) ⊎ NamedBy t (suc k) j x
     here true m p = old (elem j (operands (rowAt t k))) refl m (sym (elem-append j (operands (rowAt t k)) x) ∙ p)
     here false m p = inl p
 

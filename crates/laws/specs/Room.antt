@@ -19,7 +19,8 @@ use Rattle.laws.specs.Build.{turnHeads-grown}
 
 -- ---- every stage of building is additions to the one before
 
-pub turn-grown : (sh : Shape) (i : ℕ) (x : Instr) (xs : List Instr) → Grown (turns sh (suc i) xs .tab) (turns sh i (x ∷ xs) .tab)
+pub turn-grown : (sh : Shape) (i : ℕ) (x : Instr) (xs : List Instr)
+    → Grown (turns sh (suc i) xs .tab) (turns sh i (x ∷ xs) .tab)
 unfolding turns turn
 turn-grown sh i x xs =
     let b = turns sh (suc i) xs in
@@ -65,8 +66,23 @@ add-one-row t r = go (plan t r)
 pub room-met : {t u : List Row} (n : ℕ) → Grown t u → length t ≤ n → n < length u → Met n t u
 room-met n (bare t) h g = absurd (omega arith)
 room-met n (plus {u = u} p r) h g = elim (decLt n (length u)) [
-  | yes l ↦ (let m = room-met n p h l in record { full = m .full; row = m .row; from-start = m .from-start; holds = m .holds; appends = m .appends; to-end = plus (m .to-end) r })
-  | no l ↦ (let z : length u ≡ n = omega (arith, add-one-row u r) in record { full = u; row = r; from-start = p; holds = z; appends = omega (arith, add-one-row u r); to-end = bare (add u r .tab) })
+  | yes l ↦ (let m = room-met n p h l in record {
+    full = m .full;
+    row = m .row;
+    from-start = m .from-start;
+    holds = m .holds;
+    appends = m .appends;
+    to-end = plus (m .to-end) r;
+  })
+  | no l ↦ (let z : length u ≡ n = omega
+      (arith, add-one-row u r) in record {
+        full = u;
+        row = r;
+        from-start = p;
+        holds = z;
+        appends = omega (arith, add-one-row u r);
+        to-end = bare (add u r .tab);
+      })
 ]
 
 pub met-room : {t u : List Row} (n : ℕ) → Met n t u → n < length u

@@ -76,7 +76,8 @@ unfolding find
 find-first [] r i h = absurd (omega arith)
 find-first (q ∷ t) r i h = go (same q r) refl i h (find-first t r)
   where
-    go : (b : Bool) → same q r ≡ b → (i : ℕ) → i < cond b 0 (suc (find t r)) → ((k : ℕ) → k < find t r → same (rowAt t k) r ≡ false)
+    go : (b : Bool) → same q r ≡ b → (i : ℕ) → i < cond b 0 (suc (find t r))
+        → ((k : ℕ) → k < find t r → same (rowAt t k) r ≡ false)
         → same (rowAt (q ∷ t) i) r ≡ false
     go true e i h rest = absurd (omega arith)
     go false e zero h rest = e
@@ -107,25 +108,29 @@ values-append s vs (r ∷ t) u = values-append s (vs ++ (rowValue s vs r ∷ [])
 length-values : (s vs : List Bool) (t : List Row) → length (values s vs t) ≡ length vs + length t
 unfolding values
 length-values s vs [] = omega arith
-length-values s vs (r ∷ t) = omega (arith, length-values s (vs ++ (rowValue s vs r ∷ [])) t, length-append vs (rowValue s vs r ∷ []))
+length-values s vs (r ∷ t) = omega
+    (arith, length-values s (vs ++ (rowValue s vs r ∷ [])) t, length-append vs (rowValue s vs r ∷ []))
 
 values-keep : (s vs : List Bool) (t : List Row) (i : ℕ) → i < length vs → getD (values s vs t) i false ≡ getD vs i false
 unfolding values
 values-keep s vs [] i h = refl
 values-keep s vs (r ∷ t) i h =
-    values-keep s (vs ++ (rowValue s vs r ∷ [])) t i (omega (arith, length-append vs (rowValue s vs r ∷ []))) ∙ List·getD-append vs _ false i h
+    values-keep s (vs ++ (rowValue s vs r ∷ [])) t i (omega (arith, length-append vs (rowValue s vs r ∷ [])))
+    ∙ List·getD-append vs _ false i h
 
 -- Rows that stand keep their values when a table grows.
 pub value-append : (t u : List Row) (s : List Bool) (i : ℕ) → i < length t → value (t ++ u) s i ≡ value t s i
 unfolding value
 value-append t u s i h = rw values-append (values-keep s (values s [] t) u i (omega (arith, length-values s [] t)))
 
-pub rowValue-keep : (s vs ws : List Bool) (k : ℕ) (r : Row) → Below k r → ((i : ℕ) → i < k → getD vs i false ≡ getD ws i false) → rowValue s vs r ≡ rowValue s ws r
+pub rowValue-keep : (s vs ws : List Bool) (k : ℕ) (r : Row) → Below k r → ((i : ℕ) → i < k → getD vs i false ≡ getD ws i false)
+    → rowValue s vs r ≡ rowValue s ws r
 rowValue-keep s vs ws k (leaf i) h e = refl
 rowValue-keep s vs ws k (inv a) h e = ap not (e a h)
 rowValue-keep s vs ws k (bin o a b) h e = cc (e a (h .0), e b (h .1))
 
-pub value-here : (t u : List Row) (r : Row) (s : List Bool) → Below (length t) r → value (t ++ (r ∷ u)) s (length t) ≡ meaning (t ++ (r ∷ u)) s r
+pub value-here : (t u : List Row) (r : Row) (s : List Bool) → Below (length t) r
+    → value (t ++ (r ∷ u)) s (length t) ≡ meaning (t ++ (r ∷ u)) s r
 unfolding value values
 value-here t u r s h =
     let v = values s [] t in
@@ -133,12 +138,14 @@ value-here t u r s h =
     let split : values s [] (t ++ (r ∷ u)) ≡ values s w u = values-append s [] t (r ∷ u) in
     let n : length v ≡ length t = length-values s [] t ∙ omega arith in
     let m : length w ≡ suc (length t) = length-append v (rowValue s v r ∷ []) ∙ omega arith in
-    let old : (i : ℕ) → i < length t → getD (values s w u) i false ≡ getD v i false = λ i p. values-keep s w u i (omega arith) ∙ List·getD-append v _ false i (omega arith) in
+    let old : (i : ℕ) → i < length t → getD (values s w u) i false ≡ getD v i false = λ i p. values-keep s w u i (omega arith)
+    ∙ List·getD-append v _ false i (omega arith) in
     rw (split, ← n) (values-keep s w u (length v) (omega arith) ∙ getD-append-seam v (rowValue s v r) [] false
     ∙ rowValue-keep s v (values s w u) (length t) r h (λ i p. sym (old i p)))
 
 -- A row whose operands are earlier has the value of its operation.
-pub value-at : (t : List Row) (s : List Bool) (i : ℕ) → i < length t → Below i (rowAt t i) → value t s i ≡ meaning t s (rowAt t i)
+pub value-at : (t : List Row) (s : List Bool) (i : ℕ) → i < length t → Below i (rowAt t i)
+    → value t s i ≡ meaning t s (rowAt t i)
 value-at t s i h b =
     let n : length (take i t) ≡ i = length-take-le i t (omega arith) in
     let e : t ≡ take i t ++ (rowAt t i ∷ drop (suc i) t) = split-at t i (leaf 0) h in
@@ -148,12 +155,19 @@ value-at t s i h b =
     cc (e, n, v)
 
 -- The same for every row of a canonical table.
-pub canonical-value : {C : ℕ} {t : List Row} → Canonical C t → (s : List Bool) (i : ℕ) → i < length t → value t s i ≡ meaning t s (rowAt t i)
-canonical-value {C} {t} w s i h = elim (decLt i (2 + C)) [ yes p ↦ value-at t s i h (rw (w .leaf-at i p) tt) | no p ↦ value-at t s i h (w .earlier i (omega arith) h) ]
+pub canonical-value : {C : ℕ} {t : List Row} → Canonical C t → (s : List Bool) (i : ℕ) → i < length t
+    → value t s i ≡ meaning t s (rowAt t i)
+canonical-value {C} {t} w s i h = elim (decLt i (2 + C)) [
+  | yes p ↦ value-at t s i h (rw (w .leaf-at i p) tt)
+  | no p ↦ value-at t s i h
+      (w .earlier i (omega arith) h)
+]
 
 -- The row of a cell has the cell's value.
-pub cell-value : {C : ℕ} {t : List Row} → Canonical C t → (s : List Bool) (c : ℕ) → c < C → value t s (rowOfCell c) ≡ getD s c false
-cell-value {t = t} w s c h = canonical-value w s (rowOfCell c) (omega (arith, w .long)) ∙ ap (meaning t s) (w .leaf-at (rowOfCell c) (omega arith))
+pub cell-value : {C : ℕ} {t : List Row} → Canonical C t → (s : List Bool) (c : ℕ) → c < C
+    → value t s (rowOfCell c) ≡ getD s c false
+cell-value {t = t} w s c h = canonical-value w s (rowOfCell c) (omega (arith, w .long))
+    ∙ ap (meaning t s) (w .leaf-at (rowOfCell c) (omega arith))
 
 -- ---- the table before any operation
 
@@ -168,4 +182,5 @@ base-at C i h = List·getD-map leaf (from 0 (2 + C)) i 0 ∙ ap leaf (getD-from 
 -- A canonical table begins with it.
 pub base-take : {C : ℕ} {t : List Row} → Canonical C t → base C ≡ take (2 + C) t
 base-take {C} {t} w = ext-getD (leaf 0) (base C) (take (2 + C) t) (length-base C ∙ sym (length-take-le (2 + C) t (w .long)))
-    (λ i h. (let p : i < 2 + C = omega (arith, length-base C) in base-at C i p ∙ sym (getD-take (2 + C) t i (leaf 0) p ∙ w .leaf-at i p)))
+    (λ i h. (let p : i < 2 + C = omega (arith, length-base C) in base-at C i p
+    ∙ sym (getD-take (2 + C) t i (leaf 0) p ∙ w .leaf-at i p)))

@@ -12,7 +12,6 @@ use borrow.Author.Tests.{eqb-true, eqb-false, ne-eqb}
 use Rattle.rules.specs.Expr.{op}
 use Rattle.rules.specs.Rows.{Row, leaf, inv, bin, base, rowAt, values, value, Plan, have, make, planNot, absorbing, neutral, planBin, plan, find, Added, settle, add}
 use Rattle.laws.specs.Canonical.{Below, Canonical}
-
 use Rattle.laws.specs.Rows.{Inserts, base-at, canonical-value, inserts, length-base, meaning, stood, fresh, value-here}
 use Rattle.laws.specs.Grow.{Ext, ext-meaning}
 
@@ -35,7 +34,8 @@ below-more j k (inv a) h b = omega arith
 below-more j k (bin o a c) h b = (omega arith, omega arith)
 
 -- A plan looks at no row but the operands, so it stays the same while a table grows.
-pub plan-kept : (t u : List Row) → ((i : ℕ) → i < length t → rowAt u i ≡ rowAt t i) → (r : Row) → Below (length t) r → plan u r ≡ plan t r
+pub plan-kept : (t u : List Row) → ((i : ℕ) → i < length t → rowAt u i ≡ rowAt t i) → (r : Row) → Below (length t) r
+    → plan u r ≡ plan t r
 plan-kept t u e (leaf i) h = refl
 plan-kept t u e (inv a) h = ap (planNot a) (e a h)
 plan-kept t u e (bin o a b) h = cc (e a (h .0), e b (h .1))
@@ -122,12 +122,18 @@ module _ {C : ℕ} {t : List Row} (w : Canonical C t) where
       at : (s : List Bool) (a c : ℕ) → eqb a c ≡ true → value t s a ≡ value t s c
       at s a c e = ap (value t s) (eqb-true a c e)
 
-      go : (p : Bool) → eqb a (absorbing o) ≡ p → (q : Bool) → eqb b (absorbing o) ≡ q → (m : Bool) → eqb a (neutral o) ≡ m → (n : Bool) → eqb b (neutral o) ≡ n
-          → (k : Bool) → eqb a b ≡ k → Right t (bin o a b) (cond p (have a) (cond q (have b) (cond m (have b) (cond n (have a) (cond k (have a) (make (bin o (min a b) (max a b))))))))
+      go : (p : Bool) → eqb a (absorbing o) ≡ p → (q : Bool) → eqb b (absorbing o) ≡ q → (m : Bool) → eqb a (neutral o) ≡ m
+          → (n : Bool) → eqb b (neutral o) ≡ n
+          → (k : Bool) → eqb a b ≡ k
+          → Right t (bin o a b)
+          (cond p (have a) (cond q (have b)
+          (cond m (have b) (cond n (have a) (cond k (have a) (make (bin o (min a b) (max a b))))))))
       go true e q _ m _ n _ k _ = (ha, λ s. cc (at s a _ e, absorbing-is o s, op-absorb o (value t s b)))
-      go false _ true e m _ n _ k _ = (hb, λ s. cc (at s b _ e, absorbing-is o s, op-absorb o (value t s a), op-comm o (value t s a) (value t s b)))
+      go false _ true e m _ n _ k
+          _ = (hb, λ s. cc (at s b _ e, absorbing-is o s, op-absorb o (value t s a), op-comm o (value t s a) (value t s b)))
       go false _ false _ true e n _ k _ = (hb, λ s. cc (at s a _ e, neutral-is o s, op-neutral o (value t s b)))
-      go false _ false _ false _ true e k _ = (ha, λ s. cc (at s b _ e, neutral-is o s, op-neutral o (value t s a), op-comm o (value t s a) (value t s b)))
+      go false _ false _ false _ true e k
+          _ = (ha, λ s. cc (at s b _ e, neutral-is o s, op-neutral o (value t s a), op-comm o (value t s a) (value t s b)))
       go false _ false _ false _ false _ true e = (ha, λ s. cc (at s a b e, op-self o (value t s b)))
       go false p false q false m false n false k =
           let ga : 2 ≤ a = no-constant o a (eqb-false a _ p) (eqb-false a _ m) in
@@ -135,17 +141,23 @@ module _ {C : ℕ} {t : List Row} (w : Canonical C t) where
           let ne : a ≡ b → ⊥ = eqb-false a b k in
           elim (decLt a b) [ yes h ↦ rising a b ha hb ga h | no h ↦ falling a b ha hb gb (omega arith) ]
         where
-          rising : (a b : ℕ) → a < length t → b < length t → 2 ≤ a → a < b → Right t (bin o a b) (make (bin o (min a b) (max a b)))
+          rising : (a b : ℕ) → a < length t → b < length t → 2 ≤ a → a < b
+              → Right t (bin o a b) (make (bin o (min a b) (max a b)))
           rising a b ha hb g h =
               let x : min a b ≡ a = omega arith in
               let y : max a b ≡ b = omega arith in
               rw (x, y) ((ha, hb), λ s. refl, planBin-normal o a b (rowAt t a) (rowAt t b) g h)
 
-          falling : (a b : ℕ) → a < length t → b < length t → 2 ≤ b → b < a → Right t (bin o a b) (make (bin o (min a b) (max a b)))
+          falling : (a b : ℕ) → a < length t → b < length t → 2 ≤ b → b < a
+              → Right t (bin o a b) (make (bin o (min a b) (max a b)))
           falling a b ha hb g h =
               let x : min a b ≡ b = omega arith in
               let y : max a b ≡ a = omega arith in
-              rw (x, y) ((hb, ha), λ s. op-comm o (getD (values s [] t) b false) (getD (values s [] t) a false), planBin-normal o b a (rowAt t b) (rowAt t a) g h)
+              rw (x, y) (
+                (hb, ha),
+                λ s. op-comm o (getD (values s [] t) b false) (getD (values s [] t) a false),
+                planBin-normal o b a (rowAt t b) (rowAt t a) g h,
+              )
 
   -- The rule's plan for any operation over rows that stand is right.
   pub plan-right : (r : Row) → Ready (length t) r → Right t r (plan t r)
@@ -168,14 +180,22 @@ canonical-append {C} {t} w r h e none =
     record {
       long = omega (arith, w .long, size);
       leaf-at = λ i p. old i (omega (arith, w .long)) ∙ w .leaf-at i p;
-      earlier = λ i p q. elim (decLt i (length t)) [ yes g ↦ rw (old i g) (w .earlier i p g) | no g ↦ let z : i ≡ length t = omega (arith, size) in rw (z, last) (ready-below (length t) r h) ];
+      earlier = λ i p q. elim (decLt i (length t)) [
+        | yes g ↦ rw (old i g) (w .earlier i p g)
+        | no g ↦ let z : i ≡ length t = omega (arith, size) in rw (z, last)
+            (ready-below (length t) r h)
+      ];
       normal = λ i p q. elim (decLt i (length t)) [
-        | yes g ↦ rw (old i g) (plan-kept t (t ++ (r ∷ [])) old (rowAt t i) (below-more i (length t) (rowAt t i) (omega arith) (w .earlier i p g)) ∙ w .normal i p g)
-        | no g ↦ let z : i ≡ length t = omega (arith, size) in rw (z, last) (plan-kept t (t ++ (r ∷ [])) old r (ready-below (length t) r h) ∙ e)
+        | yes g ↦ rw (old i g)
+            (plan-kept t (t ++ (r ∷ [])) old (rowAt t i) (below-more i (length t) (rowAt t i) (omega arith) (w .earlier i p g))
+            ∙ w .normal i p g)
+        | no g ↦ let z : i ≡ length t = omega (arith, size) in rw (z, last)
+            (plan-kept t (t ++ (r ∷ [])) old r (ready-below (length t) r h) ∙ e)
       ];
       distinct = λ i j p q d. elim (decLt j (length t)) [
         | yes g ↦ w .distinct i j p g (sym (old i (omega arith)) ∙ d ∙ old j g)
-        | no g ↦ let z : j ≡ length t = omega (arith, size) in none i (omega arith) (sym (old i (omega arith)) ∙ d ∙ ap (rowAt (t ++ (r ∷ []))) z ∙ last)
+        | no g ↦ let z : j ≡ length t = omega (arith, size) in none i (omega arith)
+            (sym (old i (omega arith)) ∙ d ∙ ap (rowAt (t ++ (r ∷ []))) z ∙ last)
       ];
     }
   where
@@ -252,15 +272,19 @@ planNot-normal (suc (suc a)) (bin o b c) h n = refl
 
 pub planBin-made : (o : Bool) (a b : ℕ) (p q : Row) → planBin o a p b q ≡ make (bin o a b) → (2 ≤ a) × (a < b)
 unfolding planBin
-planBin-made o a b p q = go (eqb a (absorbing o)) refl (eqb b (absorbing o)) refl (eqb a (neutral o)) refl (eqb b (neutral o)) refl (eqb a b) refl
+planBin-made o a b p q = go (eqb a (absorbing o)) refl (eqb b (absorbing o)) refl (eqb a (neutral o)) refl
+    (eqb b (neutral o)) refl (eqb a b) refl
   where
     never : (i : ℕ) → have i ≡ make (bin o a b) → (2 ≤ a) × (a < b)
     never i e =
         let z : _≡_ {A = ℕ} 0 1 = cc in
         absurd (omega arith)
 
-    go : (k : Bool) → eqb a (absorbing o) ≡ k → (l : Bool) → eqb b (absorbing o) ≡ l → (m : Bool) → eqb a (neutral o) ≡ m → (n : Bool) → eqb b (neutral o) ≡ n → (c : Bool) → eqb a b ≡ c
-        → cond k (have a) (cond l (have b) (cond m (have b) (cond n (have a) (cond c (have a) (make (bin o (min a b) (max a b))))))) ≡ make (bin o a b) → (2 ≤ a) × (a < b)
+    go : (k : Bool) → eqb a (absorbing o) ≡ k → (l : Bool) → eqb b (absorbing o) ≡ l → (m : Bool) → eqb a (neutral o) ≡ m
+        → (n : Bool) → eqb b (neutral o) ≡ n → (c : Bool) → eqb a b ≡ c
+        → cond k (have a) (cond l (have b)
+        (cond m (have b) (cond n (have a) (cond c (have a) (make (bin o (min a b) (max a b))))))) ≡ make (bin o a b)
+        → (2 ≤ a) × (a < b)
     go true _ l _ m _ n _ c _ e = never a e
     go false _ true _ m _ n _ c _ e = never b e
     go false _ false _ true _ n _ c _ e = never b e

@@ -40,9 +40,11 @@ proper-checked e z r p n =
       new = λ i l. c .distinct i (L + j) l (omega arith);
     } in
     rw (
-      none-search (λ k. leb (L + r) (getD (z .heads) k 0)) (cells (z .shape)) (λ k h. lt-leb (L + r) _ (omega (arith, p .rows k))),
+      none-search (λ k. leb (L + r) (getD (z .heads) k 0)) (cells (z .shape))
+          (λ k h. lt-leb (L + r) _ (omega (arith, p .rows k))),
       none-search (λ j. not (fits (z .tab) (L + j))) r (λ j h. ap not (true-fits (z .tab) (L + j) (omega arith) (fit j h))),
-      none-search (λ j. not (named (z .tab) (z .heads) (L + j))) r (λ j h. ap not (p .names (L + j) (omega arith) (omega arith))),
+      none-search (λ j. not (named (z .tab) (z .heads) (L + j))) r
+          (λ j h. ap not (p .names (L + j) (omega arith) (omega arith))),
     )
 
 -- A set whose heads and rows pass the checks is proper.
@@ -139,7 +141,8 @@ module _ (e : Edition) (file : List ℕ) (sh : Shape) (r : ℕ) where
   unfolding spelt
   accepted-proper a =
       let shaped = header-granted e (e .setMark) file sh (a .header) .shaped in
-      checked-proper e (spelt e file sh r) r shaped length-spelt spelt-leaf (simp (length-map, length-from)) (a .room) (a .checked)
+      checked-proper e (spelt e file sh r) r shaped length-spelt spelt-leaf (simp (length-map, length-from)) (a .room)
+      (a .checked)
 
   -- Operation row j of those that a file spells.
   abbrev speltRow : ℕ → Row
@@ -151,11 +154,13 @@ module _ (e : Edition) (file : List ℕ) (sh : Shape) (r : ℕ) where
   spelt-rows = drop-at (base (cells sh)) (map speltRow (from 0 r)) (leaves sh) (length-base (cells sh))
 
   -- The bytes of an operation row that a file spells are those in the file, if it passes the checks.
-  spelt-bytes : Bytes file → Accepted e file sh r → (j : ℕ) → j < r → rowBytes (speltRow j) ≡ take 5 (drop (rowPlace e sh j) file)
+  spelt-bytes : Bytes file → Accepted e file sh r → (j : ℕ) → j < r
+      → rowBytes (speltRow j) ≡ take 5 (drop (rowPlace e sh j) file)
   unfolding spelt
   spelt-bytes b a j h =
       let t = spelt e file sh r .tab in
-      let row = sym (getD-drop (leaves sh) t j (leaf 0)) ∙ ap (λ l. getD l j (leaf 0)) spelt-rows ∙ getD-map-from speltRow (leaf 0) r j h in
+      let row = sym (getD-drop (leaves sh) t j (leaf 0)) ∙ ap (λ l. getD l j (leaf 0)) spelt-rows
+      ∙ getD-map-from speltRow (leaf 0) r j h in
       let normal = accepted-proper a .canonical .normal (leaves sh + j) (omega arith) (omega (arith, length-spelt)) in
       row-write t file b (rowPlace e sh j) (omega arith) (rw row at normal)
 
@@ -183,7 +188,8 @@ module _ (e : Edition) (z : TransferSet) (p : Proper e z) (file : List ℕ)
   -- The head of a cell is read where it was written.
   head-read : (k : ℕ) → k < length (z .heads) → numberAt 2 file (headAt e k) ≡ getD (z .heads) k 0
   head-read k h =
-      let at = table-read (bytesOf 2) 2 (length-bytes 2) (z .heads) k (headerEnd e) 0 file (flatMap rowBytes (operations z)) h body in
+      let at = table-read (bytesOf 2) 2 (length-bytes 2) (z .heads) k (headerEnd e) 0 file
+      (flatMap rowBytes (operations z)) h body in
       number-read 2 (getD (z .heads) k 0) (headAt e k) file _ (omega (arith, p .rows k, p .room)) at
 
   -- An operation row is read where it was written.
@@ -194,7 +200,8 @@ module _ (e : Edition) (z : TransferSet) (p : Proper e z) (file : List ℕ)
       let n = length-drop (leaves sh) (z .tab) in
       let wide = length-table (bytesOf 2) 2 (length-bytes 2) (z .heads) ∙ ap (λ k. 2 * k) (p .count) in
       let rows = flatMap rowBytes (operations z) in
-      let after = drop-part file (headerEnd e) (2 * cells sh) (flatMap (bytesOf 2) (z .heads)) rows wide body ∙ sym (append-nil rows) in
+      let after = drop-part file (headerEnd e) (2 * cells sh) (flatMap (bytesOf 2) (z .heads)) rows wide body
+      ∙ sym (append-nil rows) in
       let at = table-read rowBytes 5 length-row (operations z) j (headAt e (cells sh)) (leaf 0) file [] h after in
       let earlier = p .canonical .earlier i (omega arith) (omega arith) in
       let normal = p .canonical .normal i (omega arith) (omega arith) in
@@ -241,7 +248,8 @@ read-proper e file z q =
     rw is at (accepted-proper e file sh r a)
 
 -- A set has one file.
-pub write-read : (e : Edition) (file : List ℕ) → Bytes file → (z : TransferSet) → readSet e file ≡ granted z → writeSet e z ≡ file
+pub write-read : (e : Edition) (file : List ℕ) → Bytes file → (z : TransferSet) → readSet e file ≡ granted z
+    → writeSet e z ≡ file
 write-read e file b z q =
     let (sh, r, a, is) = read-accepted e file z q in
     rw is at (accepted-write e file sh r b a)

@@ -47,7 +47,8 @@ unfolding writeHeader
 length-header e mark sh n = simp (length-append, length-bytes) (omega arith)
 
 -- Reading the header that was written.
-pub header-read : (e : Edition) → Sensible e → (mark : ℕ) (sh : Shape) (n : ℕ) (body : List ℕ) → checkShape e sh ≡ granted tt → n < 65536
+pub header-read : (e : Edition) → Sensible e → (mark : ℕ) (sh : Shape) (n : ℕ) (body : List ℕ) → checkShape e sh ≡ granted tt
+    → n < 65536
     → Headed e mark sh n body (writeHeader e mark sh n ++ body)
 unfolding readHeader shapeAt writeHeader
 header-read e s mark sh n body c h =

@@ -27,7 +27,8 @@ ren new (leaf i) = leaf i
 ren new (inv a) = inv (getD new a 0)
 ren new (bin o a b) = bin o (getD new a 0) (getD new b 0)
 
-pub carry-op : (put : List Row → Row → Added) (x : List ℕ) (m : Carried) (k : ℕ) (r : Row) → Ready k r → carryOne put x m r ≡ put (m .tab) (ren (m .new) r)
+pub carry-op : (put : List Row → Row → Added) (x : List ℕ) (m : Carried) (k : ℕ) (r : Row) → Ready k r
+    → carryOne put x m r ≡ put (m .tab) (ren (m .new) r)
 carry-op put x m k (leaf i) h = absurd h
 carry-op put x m k (inv a) h = refl
 carry-op put x m k (bin o a b) h = refl
@@ -63,7 +64,8 @@ module _ {C : ℕ} (t : List Row) (x : List ℕ) (w : Canonical C t) where
     pub grown : Ext (base C) (m .tab)
     pub placed : (i : ℕ) → i < k → R i ≡ true → Placed i (getD (m .new) i 0) (m .tab) (m .new)
     pub rising : (i j : ℕ) → i < j → j < k → R i ≡ true → R j ≡ true → getD (m .new) i 0 < getD (m .new) j 0
-    pub onto : (p : ℕ) → 2 + C ≤ p → p < length (m .tab) → (i : ℕ) × (i < k) × (2 + C ≤ i) × (R i ≡ true) × (getD (m .new) i 0 ≡ p)
+    pub onto : (p : ℕ) → 2 + C ≤ p → p < length (m .tab)
+        → (i : ℕ) × (i < k) × (2 + C ≤ i) × (R i ≡ true) × (getD (m .new) i 0 ≡ p)
     pub few : length (m .tab) ≤ 2 + C + (k - (2 + C))
 
   below : (i : ℕ) → i < length t → Below i (rowAt t i)
@@ -72,13 +74,15 @@ module _ {C : ℕ} (t : List Row) (x : List ℕ) (w : Canonical C t) where
   -- One row more, which got the number a in the table u.
   packed-step : (k : ℕ) (m : Carried) → Packed k m → k < length t → (a : ℕ) (u : List Row) → Ext (m .tab) u
       → (R k ≡ true → Placed k a u (m .new)) → (R k ≡ true → (i : ℕ) → i < k → R i ≡ true → getD (m .new) i 0 < a)
-      → ((p : ℕ) → length (m .tab) ≤ p → p < length u → (2 + C ≤ k) × (R k ≡ true) × (a ≡ p)) → length u ≤ 2 + C + (suc k - (2 + C))
+      → ((p : ℕ) → length (m .tab) ≤ p → p < length u → (2 + C ≤ k) × (R k ≡ true) × (a ≡ p))
+      → length u ≤ 2 + C + (suc k - (2 + C))
       → Packed (suc k) (record { tab = u; new = m .new ++ (a ∷ []) })
   packed-step k m g h a u more place above fills small = record {
     size = snoc-length (m .new) a k (g .size);
     grown = ext-trans (g .grown) more;
     placed = snoc-each (λ i n. R i ≡ true → Placed i n u (m .new ++ (a ∷ []))) (m .new) a k (g .size)
-        (λ i l q. kept i (getD (m .new) i 0) (m .tab) (omega arith) more (g .placed i l q)) (λ q. kept k a u (omega arith) (ext-refl u) (place q));
+        (λ i l q. kept i (getD (m .new) i 0) (m .tab) (omega arith) more (g .placed i l q))
+        (λ q. kept k a u (omega arith) (ext-refl u) (place q));
     rising = λ i j p l q r. elim (decLt j k) [
       | yes f ↦ rw (old i (omega arith), old j f) (g .rising i j p f q r)
       | no f ↦ (let z : j ≡ k = omega arith in rw (z, last, old i (omega arith)) (above (rw z at r) i (omega arith) q))
@@ -101,19 +105,27 @@ module _ {C : ℕ} (t : List Row) (x : List ℕ) (w : Canonical C t) where
         leaves = p .leaves;
         high = p .high;
         low = omega (arith, p .low, ext-length e);
-        row = λ c. ext-row e b (p .low) ∙ p .row c ∙ sym (ren-kept (m .new) a k (rowAt t i) (g .size) (below-more i k (rowAt t i) l (below i (omega arith))));
+        row = λ c. ext-row e b (p .low) ∙ p .row c
+            ∙ sym (ren-kept (m .new) a k (rowAt t i) (g .size) (below-more i k (rowAt t i) l (below i (omega arith))));
       }
 
   -- Every row keeps the packing.
-  packed-row : (k : ℕ) (m : Carried) → Packed k m → k < length t → (b : Bool) → R k ≡ b → Packed (suc k) (carryRow append (unchanging C) m (rowAt t k) b)
+  packed-row : (k : ℕ) (m : Carried) → Packed k m → k < length t → (b : Bool) → R k ≡ b
+      → Packed (suc k) (carryRow append (unchanging C) m (rowAt t k) b)
   packed-row k m g h false q =
-      packed-step k m g h 0 (m .tab) (ext-refl (m .tab)) (λ r. absurd (never r)) (λ r. absurd (never r)) (λ p a b. absurd (omega arith)) (omega (arith, g .few))
+      packed-step k m g h 0 (m .tab) (ext-refl (m .tab)) (λ r. absurd (never r)) (λ r. absurd (never r))
+      (λ p a b. absurd (omega arith)) (omega (arith, g .few))
     where
       never : R k ≡ true → ⊥
       never r =
           let z : _≡_ {A = ℕ} 0 1 = cc in
           omega arith
-  packed-row k m g h true q = elim (decLt k (2 + C)) [ yes p ↦ rw (w .leaf-at k p, unchanging-at C k p) (as-leaf p) | no p ↦ rw (carry-op append (unchanging C) m k (rowAt t k) (canonical-ready w k (omega arith) h)) (as-op (omega arith)) ]
+  packed-row k m g h true q = elim (decLt k (2 + C)) [
+    | yes p ↦ rw (w .leaf-at k p, unchanging-at C k p)
+        (as-leaf p)
+    | no p ↦ rw (carry-op append (unchanging C) m k (rowAt t k) (canonical-ready w k (omega arith) h))
+        (as-op (omega arith))
+  ]
     where
       tall : 2 + C ≤ length (m .tab)
       tall = omega (arith, ext-length (g .grown), length-base C)
@@ -121,14 +133,21 @@ module _ {C : ℕ} (t : List Row) (x : List ℕ) (w : Canonical C t) where
       as-leaf : k < 2 + C → Packed (suc k) (record { tab = m .tab; new = m .new ++ (k ∷ []) })
       as-leaf p = packed-step k m g h k (m .tab) (ext-refl (m .tab))
           (λ r. record { leaves = λ c. refl; high = λ c. c; low = omega (arith, tall); row = λ c. absurd (omega arith) })
-          (λ r i l f. omega (arith, g .placed i l f .leaves (omega arith))) (λ p a b. absurd (omega arith)) (omega (arith, g .few))
+          (λ r i l f. omega (arith, g .placed i l f .leaves (omega arith))) (λ p a b. absurd (omega arith))
+          (omega (arith, g .few))
 
-      as-op : 2 + C ≤ k → Packed (suc k) (record { tab = m .tab ++ (ren (m .new) (rowAt t k) ∷ []); new = m .new ++ (length (m .tab) ∷ []) })
+      as-op : 2 + C ≤ k → Packed (suc k)
+          (record { tab = m .tab ++ (ren (m .new) (rowAt t k) ∷ []); new = m .new ++ (length (m .tab) ∷ []) })
       as-op p =
           let r = ren (m .new) (rowAt t k) in
           let more : length (m .tab ++ (r ∷ [])) ≡ length (m .tab) + 1 = length-append (m .tab) (r ∷ []) in
           packed-step k m g h (length (m .tab)) (m .tab ++ (r ∷ [])) (append-extends (m .tab) r)
-          (λ r. record { leaves = λ c. absurd (omega arith); high = λ c. tall; low = omega arith; row = λ c. getD-append-seam (m .tab) _ [] (leaf 0) })
+          (λ r. record {
+            leaves = λ c. absurd (omega arith);
+            high = λ c. tall;
+            low = omega arith;
+            row = λ c. getD-append-seam (m .tab) _ [] (leaf 0);
+          })
           (λ r i l f. g .placed i l f .low) (λ j a b. (p, q, omega arith)) (omega (arith, g .few))
 
   pub packed : (k : ℕ) → k ≤ length t → Packed k (carry append (base C) (unchanging C) t x k)
@@ -151,7 +170,11 @@ module _ {C : ℕ} (t : List Row) (x : List ℕ) (w : Canonical C t) where
     closed i r = reaches-operands t below x i r
 
     N-tall : (a : ℕ) → a < k → R a ≡ true → 2 ≤ a → 2 ≤ N a
-    N-tall a p c two = elim (decLt a (2 + C)) [ yes f ↦ omega (arith, g .placed a p c .leaves f) | no f ↦ omega (arith, g .placed a p c .high (omega arith)) ]
+    N-tall a p c two = elim (decLt a (2 + C)) [
+      | yes f ↦ omega (arith, g .placed a p c .leaves f)
+      | no f ↦ omega
+          (arith, g .placed a p c .high (omega arith))
+    ]
 
     N-one : (a b : ℕ) → a < k → b < k → R a ≡ true → R b ≡ true → N a ≡ N b → a ≡ b
     N-one a b p f c d e = elim (decLt a b) [
@@ -165,7 +188,8 @@ module _ {C : ℕ} (t : List Row) (x : List ℕ) (w : Canonical C t) where
     -- Where row a is no NOT row, neither is its copy.
     no-inv : (a b : ℕ) → a < k → R a ≡ true → ((c : ℕ) → rowAt t a ≡ inv c → ⊥) → rowAt (m .tab) (N a) ≡ inv b → ⊥
     no-inv a b p c n e = elim (decLt a (2 + C)) [
-      | yes f ↦ (let z : leaf a ≡ inv b = sym (base-row a f) ∙ ap (rowAt (m .tab)) (sym (g .placed a p c .leaves f)) ∙ e in let y : _≡_ {A = ℕ} 0 1 = cc in omega arith)
+      | yes f ↦ (let z : leaf a ≡ inv b = sym (base-row a f) ∙ ap (rowAt (m .tab)) (sym (g .placed a p c .leaves f))
+          ∙ e in let y : _≡_ {A = ℕ} 0 1 = cc in omega arith)
       | no f ↦ copy (rowAt t a) refl (sym (g .placed a p c .row (omega arith)) ∙ e)
     ]
       where
@@ -188,10 +212,12 @@ module _ {C : ℕ} (t : List Row) (x : List ℕ) (w : Canonical C t) where
     made (bin o a b) e d p =
         let c = closed k (bin o a b) l e q in
         let z = planBin-made o a b (rowAt t a) (rowAt t b) p in
-        planBin-normal o (N a) (N b) (rowAt (m .tab) (N a)) (rowAt (m .tab) (N b)) (N-tall a (d .0) (c .0) (z .0)) (g .rising a b (z .1) (d .1) (c .0) (c .1))
+        planBin-normal o (N a) (N b) (rowAt (m .tab) (N a)) (rowAt (m .tab) (N b)) (N-tall a (d .0) (c .0) (z .0))
+        (g .rising a b (z .1) (d .1) (c .0) (c .1))
 
     -- Copies of two rows are equal only if the rows are.
-    copy-one : (i : ℕ) → i < k → R i ≡ true → (p r : Row) → rowAt t i ≡ p → rowAt t k ≡ r → Ready i p → Ready k r → ren (m .new) p ≡ ren (m .new) r → p ≡ r
+    copy-one : (i : ℕ) → i < k → R i ≡ true → (p r : Row) → rowAt t i ≡ p → rowAt t k ≡ r → Ready i p → Ready k r
+        → ren (m .new) p ≡ ren (m .new) r → p ≡ r
     copy-one i c d (leaf a) r e f y z n = absurd y
     copy-one i c d (inv a) (leaf b) e f y z n = absurd z
     copy-one i c d (inv a) (inv b) e f y z n =
@@ -230,11 +256,14 @@ module _ {C : ℕ} (t : List Row) (x : List ℕ) (w : Canonical C t) where
           | yes c ↦ copied (rowAt t k) ready p (sym (base-row p c) ∙ e)
           | no c ↦ (let o = g .onto p (omega arith) f in
               let at = g .placed (o .0) (o .1) (o .3) .row (o .2) in
-              w .distinct (o .0) k (o .1) l (copy-one (o .0) (o .1) (o .3) (rowAt t (o .0)) (rowAt t k) refl refl (canonical-ready w (o .0) (o .2) (omega (arith, o .1))) ready
+              w .distinct (o .0) k (o .1) l
+              (copy-one (o .0) (o .1) (o .3) (rowAt t (o .0)) (rowAt t k) refl refl
+              (canonical-ready w (o .0) (o .2) (omega (arith, o .1))) ready
               (sym at ∙ ap (rowAt (m .tab)) (o .4) ∙ e)))
         ]
 
-        put : Inserts (m .tab) (ren (m .new) (rowAt t k)) → settle (m .tab) (make (ren (m .new) (rowAt t k))) ≡ append (m .tab) (ren (m .new) (rowAt t k))
+        put : Inserts (m .tab) (ren (m .new) (rowAt t k))
+            → settle (m .tab) (make (ren (m .new) (rowAt t k))) ≡ append (m .tab) (ren (m .new) (rowAt t k))
         put (stood a b c) = absurd (none (find (m .tab) (ren (m .new) (rowAt t k))) b c)
         put (fresh a b c) = λ i. record { tab = a i; row = b i }
 
@@ -252,7 +281,9 @@ module _ {C : ℕ} (t : List Row) (x : List ℕ) (w : Canonical C t) where
       one q = elim (decLt k (2 + C)) [
         | yes p ↦ rw (w .leaf-at k p)
         | no p ↦ (let r = canonical-ready w k (omega arith) (omega arith) in
-            carry-op add (unchanging C) m k (rowAt t k) r ∙ add-is-append k m (packed k (omega arith)) (omega arith) (omega arith) q ∙ sym (carry-op append (unchanging C) m k (rowAt t k) r))
+            carry-op add (unchanging C) m k (rowAt t k) r
+            ∙ add-is-append k m (packed k (omega arith)) (omega arith) (omega arith) q
+            ∙ sym (carry-op append (unchanging C) m k (rowAt t k) r))
       ]
 
       go : (b : Bool) → R k ≡ b → carryRow add (unchanging C) m (rowAt t k) b ≡ carryRow append (unchanging C) m (rowAt t k) b
@@ -268,19 +299,22 @@ unchanging-stands C = record {
   count = length-from 2 C;
   low = λ c. elim (decLt c C) [
     | yes h ↦ omega (arith, getD-from 2 C c 0 h, length-base C)
-    | no h ↦ (let p : length (from 2 C) ≤ c = omega (arith, length-from 2 C) in omega (arith, List·getD-eq-default (from 2 C) 0 p, length-base C))
+    | no h ↦ (let p : length (from 2 C) ≤ c = omega (arith, length-from 2 C) in omega
+        (arith, List·getD-eq-default (from 2 C) 0 p, length-base C))
   ];
 }
 
 -- The unchanging set changes nothing.
 pub unchanging-acts : (C : ℕ) (s : List Bool) → length s ≡ C → act (base C) (unchanging C) s ≡ s
 unfolding act unchanging
-unchanging-acts C s e = ext-getD false (map (value (base C) s) (from 2 C)) s (length-map (from 2 C) (value (base C) s) ∙ length-from 2 C ∙ sym e) at
+unchanging-acts C s e = ext-getD false (map (value (base C) s) (from 2 C)) s
+    (length-map (from 2 C) (value (base C) s) ∙ length-from 2 C ∙ sym e) at
   where
     w : Canonical C (base C)
     w = base-canonical C
 
-    at : (c : ℕ) → c < length (map (value (base C) s) (from 2 C)) → getD (map (value (base C) s) (from 2 C)) c false ≡ getD s c false
+    at : (c : ℕ) → c < length (map (value (base C) s) (from 2 C))
+        → getD (map (value (base C) s) (from 2 C)) c false ≡ getD s c false
     at c h =
         let p : c < C = omega (arith, length-map (from 2 C) (value (base C) s), length-from 2 C) in
         let z : value (base C) s 0 ≡ false = zero-is w s in
@@ -301,7 +335,8 @@ module _ {C : ℕ} {t : List Row} {x : List ℕ} (X : Stands C (over t x)) where
 
   -- A squeezed set has the same values on every storage of C cells.
   pub squeeze-acts : (s : List Bool) → length s ≡ C → act (squeeze C t x .tab) (squeeze C t x .heads) s ≡ act t x s
-  squeeze-acts s e = rw squeeze-after (after-acts (base C) (unchanging C) t x (unchanging-stands C) X .val s ∙ ap (act t x) (unchanging-acts C s e))
+  squeeze-acts s e = rw squeeze-after
+      (after-acts (base C) (unchanging C) t x (unchanging-stands C) X .val s ∙ ap (act t x) (unchanging-acts C s e))
 
   -- A squeezed set has no more rows.
   pub squeeze-few : length (squeeze C t x .tab) ≤ length t

@@ -39,7 +39,8 @@ module _ (P : Program) where
       omega arith
 
   -- An instruction that goes to a later one.
-  does-go : (i l : ℕ) (s s₁ s′ : List Bool) → i < l → l < n → ((r : List ℕ) → step P (due i s r) ≡ due l s₁ r) → Does P l s₁ s′ → Does P i s s′
+  does-go : (i l : ℕ) (s s₁ s′ : List Bool) → i < l → l < n → ((r : List ℕ) → step P (due i s r) ≡ due l s₁ r) → Does P l s₁ s′
+      → Does P i s s′
   unfolding run
   does-go i l s s₁ s′ h g e d = record {
     steps = suc (d .steps);
@@ -48,12 +49,20 @@ module _ (P : Program) where
   }
 
   -- An instruction that calls a later one and comes back to the next.
-  does-call : (i l : ℕ) (s s₁ s′ : List Bool) → i < l → l < n → ((r : List ℕ) → step P (due i s r) ≡ due l s (suc i ∷ r)) → Does P l s s₁ → Does P (suc i) s₁ s′ → Does P i s s′
+  does-call : (i l : ℕ) (s s₁ s′ : List Bool) → i < l → l < n → ((r : List ℕ) → step P (due i s r) ≡ due l s (suc i ∷ r))
+      → Does P l s s₁ → Does P (suc i) s₁ s′ → Does P i s s′
   unfolding run
   does-call i l s s₁ s′ h g e d d′ = record {
     steps = suc (d .steps + d′ .steps);
-    few = omega (arith, d .few, d′ .few, half i (suc i) (omega arith) (omega arith), pow-mono {i = n - l} {j = n - suc i} (omega arith));
-    runs = λ r. ap (run P (d .steps + d′ .steps)) (e r) ∙ run-add P (d .steps) (d′ .steps) (due l s (suc i ∷ r)) ∙ ap (run P (d′ .steps)) (d .runs (suc i ∷ r)) ∙ d′ .runs r;
+    few = omega (
+      arith,
+      d .few,
+      d′ .few,
+      half i (suc i) (omega arith) (omega arith),
+      pow-mono {i = n - l} {j = n - suc i} (omega arith),
+    );
+    runs = λ r. ap (run P (d .steps + d′ .steps)) (e r) ∙ run-add P (d .steps) (d′ .steps) (due l s (suc i ∷ r))
+        ∙ ap (run P (d′ .steps)) (d .runs (suc i ∷ r)) ∙ d′ .runs r;
   }
 
   -- An instruction that comes back at once.
@@ -86,7 +95,8 @@ module _ (P : Program) where
     at : (x : Instr) → getD (P .instrs) i END ≡ x → (s : List Bool) (r : List ℕ) → step P (due i s r) ≡ obey sh x i s r
     at x e s r = ap (λ y. obey sh y i s r) e
 
-    flag-value : (t : List Row) → Canonical (cells sh) t → (s : List Bool) → value t s (rowOfCell (flag sh)) ≡ getD s (flag sh) false
+    flag-value : (t : List Row) → Canonical (cells sh) t → (s : List Bool)
+        → value t s (rowOfCell (flag sh)) ≡ getD s (flag sh) false
     flag-value t w s = cell-value w s (flag sh) (omega arith)
 
     -- By the flag: where it is 1 the machine does what x says, else what y says.
@@ -99,31 +109,41 @@ module _ (P : Program) where
         let o = own (b .tab) sh p in
         let O = own-acts (b .tab) sh (wf .deep) (m .canonical) p (f .0) in
         let y = m .stands (suc i) (omega arith) (f .1) in
-        let A = after-acts (o .tab) (o .heads) (o .tab) (T (suc i)) (O .stands) (stands-ext (O .stands .canonical) (grown-ext (own-grown (b .tab) sh p)) (T (suc i)) y) in
+        let A = after-acts (o .tab) (o .heads) (o .tab) (T (suc i)) (O .stands)
+        (stands-ext (O .stands .canonical) (grown-ext (own-grown (b .tab) sh p)) (T (suc i)) y) in
         record {
           stands = A .stands;
-          does = λ s. does-to i s _ _ (sym (A .val s ∙ ap (act (o .tab) (T (suc i))) (O .val s) ∙ act-kept (grown-ext (own-grown (b .tab) sh p)) (T (suc i)) y (perform sh p s)))
-              (does-go i (suc i) s (perform sh p s) _ (omega arith) (f .1) (at (plain p) e s) (m .does (suc i) (omega arith) (f .1) (perform sh p s)));
+          does = λ s. does-to i s _ _
+              (sym (A .val s ∙ ap (act (o .tab) (T (suc i))) (O .val s)
+              ∙ act-kept (grown-ext (own-grown (b .tab) sh p)) (T (suc i)) y (perform sh p s)))
+              (does-go i (suc i) s (perform sh p s) _ (omega arith) (f .1) (at (plain p) e s)
+              (m .does (suc i) (omega arith) (f .1) (perform sh p s)));
         }
     turned (JP l) e f = record {
       stands = m .stands l (f .0) (f .1);
       does = λ s. does-go i l s s _ (f .0) (f .1) (at (JP l) e s) (m .does l (f .0) (f .1) s);
     }
     turned (JPC l) e f =
-        let A = choice-acts (b .tab) (rowOfCell (flag sh)) (T l) (T (suc i)) (omega (arith, m .canonical .long)) (m .stands l (f .0) (f .1)) (m .stands (suc i) (omega arith) (omega arith)) in
+        let A = choice-acts (b .tab) (rowOfCell (flag sh)) (T l) (T (suc i)) (omega (arith, m .canonical .long))
+        (m .stands l (f .0) (f .1)) (m .stands (suc i) (omega arith) (omega arith)) in
         record {
           stands = A .stands;
-          does = λ s. does-to i s _ _ (sym (A .val s ∙ ap (λ c. cond c (act (b .tab) (T l) s) (act (b .tab) (T (suc i)) s)) (flag-value (b .tab) (m .canonical) s)))
+          does = λ s. does-to i s _ _
+              (sym (A .val s ∙ ap (λ c. cond c (act (b .tab) (T l) s) (act (b .tab) (T (suc i)) s))
+              (flag-value (b .tab) (m .canonical) s)))
               (by-flag s _ _ (getD s (flag sh) false)
               (λ q. does-go i l s s _ (f .0) (f .1) (λ r. at (JPC l) e s r ∙ rw q) (m .does l (f .0) (f .1) s))
-              (λ q. does-go i (suc i) s s _ (omega arith) (omega arith) (λ r. at (JPC l) e s r ∙ rw q) (m .does (suc i) (omega arith) (omega arith) s)));
+              (λ q. does-go i (suc i) s s _ (omega arith) (omega arith) (λ r. at (JPC l) e s r ∙ rw q)
+              (m .does (suc i) (omega arith) (omega arith) s)));
         }
     turned (JS l) e f =
-        let A = after-acts (b .tab) (T l) (b .tab) (T (suc i)) (m .stands l (f .0) (f .1)) (m .stands (suc i) (omega arith) (omega arith)) in
+        let A = after-acts (b .tab) (T l) (b .tab) (T (suc i)) (m .stands l (f .0) (f .1))
+        (m .stands (suc i) (omega arith) (omega arith)) in
         record {
           stands = A .stands;
           does = λ s. does-to i s _ _ (sym (A .val s))
-              (does-call i l s _ _ (f .0) (f .1) (at (JS l) e s) (m .does l (f .0) (f .1) s) (m .does (suc i) (omega arith) (omega arith) (act (b .tab) (T l) s)));
+              (does-call i l s _ _ (f .0) (f .1) (at (JS l) e s) (m .does l (f .0) (f .1) s)
+              (m .does (suc i) (omega arith) (omega arith) (act (b .tab) (T l) s)));
         }
     turned (JSC l) e f =
         let a = after (b .tab) (T l) (b .tab) (T (suc i)) in
@@ -131,17 +151,24 @@ module _ (P : Program) where
         let B = after-acts (b .tab) (T l) (b .tab) (T (suc i)) (m .stands l (f .0) (f .1)) y in
         let more = grown-ext (after-grown (b .tab) (T l) (b .tab) (T (suc i))) in
         let w = B .stands .canonical in
-        let A = choice-acts (a .tab) (rowOfCell (flag sh)) (a .heads) (T (suc i)) (omega (arith, w .long)) (B .stands) (stands-ext w more (T (suc i)) y) in
+        let A = choice-acts (a .tab) (rowOfCell (flag sh)) (a .heads) (T (suc i)) (omega (arith, w .long)) (B .stands)
+        (stands-ext w more (T (suc i)) y) in
         record {
           stands = A .stands;
           does = λ s. does-to i s _ _ (sym (A .val s ∙ cc (flag-value (a .tab) w s, B .val s, act-kept more (T (suc i)) y s)))
               (by-flag s _ _ (getD s (flag sh) false)
-              (λ q. does-call i l s _ _ (f .0) (f .1) (λ r. at (JSC l) e s r ∙ rw q) (m .does l (f .0) (f .1) s) (m .does (suc i) (omega arith) (omega arith) (act (b .tab) (T l) s)))
-              (λ q. does-go i (suc i) s s _ (omega arith) (omega arith) (λ r. at (JSC l) e s r ∙ rw q) (m .does (suc i) (omega arith) (omega arith) s)));
+              (λ q. does-call i l s _ _ (f .0) (f .1) (λ r. at (JSC l) e s r ∙ rw q) (m .does l (f .0) (f .1) s)
+              (m .does (suc i) (omega arith) (omega arith) (act (b .tab) (T l) s)))
+              (λ q. does-go i (suc i) s s _ (omega arith) (omega arith) (λ r. at (JSC l) e s r ∙ rw q)
+              (m .does (suc i) (omega arith) (omega arith) s)));
         }
     turned END e f =
         let O = own-acts (b .tab) sh (wf .deep) (m .canonical) INIT tt in
-        record { stands = O .stands; does = λ s. does-to i s _ _ (sym (O .val s)) (does-end i s (perform sh INIT s) i<n (at END e s)) }
+        record {
+          stands = O .stands;
+          does = λ s. does-to i s _ _ (sym (O .val s))
+              (does-end i s (perform sh INIT s) i<n (at END e s));
+        }
 
     -- One turn of building.
     turn-made : Made i (turn sh i (getD (P .instrs) i END) b)
@@ -175,14 +202,23 @@ module _ (P : Program) where
 
   turns-made : WellFormed P → (i : ℕ) (xs : List Instr) → From i xs → Made i (turns sh i xs)
   unfolding turns
-  turns-made wf i [] f = record { canonical = base-canonical (cells sh); stands = λ l h g. absurd (omega (arith, f .size)); does = λ l h g. absurd (omega (arith, f .size)) }
+  turns-made wf i [] f = record {
+    canonical = base-canonical (cells sh);
+    stands = λ l h g. absurd (omega (arith, f .size));
+    does = λ l h g. absurd (omega (arith, f .size));
+  }
   turns-made wf i (x ∷ xs) f =
-      let rest : From (suc i) xs = record { size = omega (arith, f .size); same = λ j h. f .same (suc j) (omega arith) ∙ ap (λ k. getD (P .instrs) k END) (omega arith) } in
+      let rest : From (suc i) xs = record {
+        size = omega (arith, f .size);
+        same = λ j h. f .same (suc j) (omega arith)
+            ∙ ap (λ k. getD (P .instrs) k END) (omega arith);
+      } in
       let here : x ≡ getD (P .instrs) i END = f .same 0 (omega arith) ∙ ap (λ k. getD (P .instrs) k END) (omega arith) in
       rw here (turn-made wf i (omega (arith, f .size)) (turns sh (suc i) xs) (turns-made wf (suc i) xs rest))
 
   built : WellFormed P → Made 0 (turns sh 0 (P .instrs))
-  built wf = turns-made wf 0 (P .instrs) (record { size = omega arith; same = λ j h. ap (λ k. getD (P .instrs) k END) (omega arith) })
+  built wf = turns-made wf 0 (P .instrs)
+      (record { size = omega arith; same = λ j h. ap (λ k. getD (P .instrs) k END) (omega arith) })
 
   -- The program's set stands.
   pub transfer-stands : WellFormed P → Stands (cells sh) (transfer P)

@@ -8,14 +8,16 @@ use borrow.Author.Tests.{leb-true, not-false}
 use Rattle.rules.specs.Verdict.{Verdict, granted, refused, _>>=_, refuseIf}
 
 -- A chain is granted only if its first part is, and the rest on what that hands back.
-pub bind-granted : {A B : Type 0} (m : Verdict A) (g : A → Verdict B) {b : B} → (m >>= g) ≡ granted b → (a : A) × (m ≡ granted a) × (g a ≡ granted b)
+pub bind-granted : {A B : Type 0} (m : Verdict A) (g : A → Verdict B) {b : B} → (m >>= g) ≡ granted b
+    → (a : A) × (m ≡ granted a) × (g a ≡ granted b)
 bind-granted (granted a) g e = (a, refl, e)
 bind-granted (refused n p) g {b = b} e =
     let z : _≡_ {A = ℕ} 0 1 = cc in
     absurd (omega arith)
 
 -- A check that lets the rest be granted has found nothing.
-pub check-granted : {B : Type 0} (t : Bool) (n p : ℕ) (g : Unit {0} → Verdict B) {b : B} → (refuseIf t n p >>= g) ≡ granted b → (t ≡ false) × (g tt ≡ granted b)
+pub check-granted : {B : Type 0} (t : Bool) (n p : ℕ) (g : Unit {0} → Verdict B) {b : B} → (refuseIf t n p >>= g) ≡ granted b
+    → (t ≡ false) × (g tt ≡ granted b)
 check-granted true n p g e =
     let z : _≡_ {A = ℕ} 0 1 = cc in
     absurd (omega arith)
@@ -77,7 +79,8 @@ grants-check true n p g h = refuses
 grants-check false n p g h = h refl
 
 -- The rest of a chain may use both bounds that a check before it asked for.
-pub grants-within : {B : Type 0} {R : B → Type 0} (a b c d n p : ℕ) (g : Unit {0} → Verdict B) → (a ≤ b → c ≤ d → Grants R (g tt))
+pub grants-within : {B : Type 0} {R : B → Type 0} (a b c d n p : ℕ) (g : Unit {0} → Verdict B)
+    → (a ≤ b → c ≤ d → Grants R (g tt))
     → Grants R (refuseIf (not (leb a b && leb c d)) n p >>= g)
 grants-within a b c d n p g h =
     grants-check (not (leb a b && leb c d)) n p g λ q.

@@ -67,7 +67,8 @@ abbrev pub edge : List ℕ
 edge = file (shape 2 1 1 1) (load 0 ∷ plain (REDGE 2) ∷ plain (SET 1) ∷ END ∷ [])
 
 abbrev pub edgeSet : List ℕ
-edgeSet = setBytes (shape 2 1 1 1) 3 (2 ∷ 10 ∷ 2 ∷ 1 ∷ 0 ∷ 0 ∷ []) (1 ∷ 4 ∷ 0 ∷ 0 ∷ 0 ∷ 2 ∷ 2 ∷ 0 ∷ 8 ∷ 0 ∷ 3 ∷ 3 ∷ 0 ∷ 9 ∷ 0 ∷ [])
+edgeSet = setBytes (shape 2 1 1 1) 3 (2 ∷ 10 ∷ 2 ∷ 1 ∷ 0 ∷ 0 ∷ [])
+    (1 ∷ 4 ∷ 0 ∷ 0 ∷ 0 ∷ 2 ∷ 2 ∷ 0 ∷ 8 ∷ 0 ∷ 3 ∷ 3 ∷ 0 ∷ 9 ∷ 0 ∷ [])
 
 abbrev pub edgeUnchanging : List ℕ
 edgeUnchanging = setBytes (shape 2 1 1 1) 0 (2 ∷ 3 ∷ 4 ∷ 5 ∷ 6 ∷ 7 ∷ []) []
@@ -119,7 +120,10 @@ bench =
     ∷ (builds swap 6 7 35 17, refused 10 0)
     ∷ (composes swapSet swapSet 7 7 17, granted (setBytes (shape 2 0 2 0) 0 (2 ∷ 3 ∷ 1 ∷ 0 ∷ 0 ∷ []) []))
     -- edge: exact bytes; 14 rows suffice and 13 do not; the other slices; the text that is printed
-    ∷ (builds (1 ∷ 2 ∷ 1 ∷ 1 ∷ 1 ∷ 4 ∷ 0 ∷ 0 ∷ 0 ∷ 2 ∷ 0 ∷ 4 ∷ 0 ∷ 6 ∷ 0 ∷ 16 ∷ 0 ∷ 35 ∷ 2 ∷ 33 ∷ 1 ∷ 10 ∷ []) 14 14 24 34, granted edgeSet)
+    ∷ (
+      builds (1 ∷ 2 ∷ 1 ∷ 1 ∷ 1 ∷ 4 ∷ 0 ∷ 0 ∷ 0 ∷ 2 ∷ 0 ∷ 4 ∷ 0 ∷ 6 ∷ 0 ∷ 16 ∷ 0 ∷ 35 ∷ 2 ∷ 33 ∷ 1 ∷ 10 ∷ []) 14 14 24 34,
+      granted edgeSet,
+    )
     ∷ (builds edge 14 14 24 34, granted edgeSet)
     ∷ (builds edge 13 13 24 34, refused 10 13)
     ∷ (builds edge 14 13 24 34, refused 10 0)
@@ -162,7 +166,11 @@ bench =
     ∷ (composes copySet swapSet 7 7 17, granted copySet)
     ∷ (composes swapSet copySet 7 7 17, granted (setBytes (shape 2 0 2 0) 0 (3 ∷ 3 ∷ 1 ∷ 0 ∷ 0 ∷ []) []))
     ∷ (builds called 8 8 30 22, granted (setBytes (shape 2 0 2 0) 1 (7 ∷ 1 ∷ 1 ∷ 0 ∷ 0 ∷ []) (1 ∷ 4 ∷ 0 ∷ 0 ∷ 0 ∷ [])))
-    ∷ (builds maybeCall 9 9 12 30, granted (setBytes (shape 2 0 1 0) 3 (8 ∷ 1 ∷ 0 ∷ 0 ∷ []) (1 ∷ 3 ∷ 0 ∷ 0 ∷ 0 ∷ 2 ∷ 3 ∷ 0 ∷ 6 ∷ 0 ∷ 3 ∷ 3 ∷ 0 ∷ 7 ∷ 0 ∷ [])))
+    ∷ (
+      builds maybeCall 9 9 12 30,
+      granted (setBytes (shape 2 0 1 0) 3 (8 ∷ 1 ∷ 0 ∷ 0 ∷ [])
+          (1 ∷ 3 ∷ 0 ∷ 0 ∷ 0 ∷ 2 ∷ 3 ∷ 0 ∷ 6 ∷ 0 ∷ 3 ∷ 3 ∷ 0 ∷ 7 ∷ 0 ∷ [])),
+    )
     -- our own: JSC not taken keeps f, and taken resets it; DUP keeps e1; a left operand's rows come first; an entry is judged before
     -- what stands there
     ∷ (scans maybeCall (1 ∷ 0 ∷ 1 ∷ 0 ∷ []) 3, granted (3 ∷ 0 ∷ 1 ∷ 0 ∷ 0 ∷ []))

@@ -28,8 +28,9 @@ pub data Form : Type 0 where
 -- R10: the codes.
 abbrev pub codes : List (ℕ × Form)
 codes =
-    (0, alone (plain INIT)) ∷ (1, alone (plain NOT)) ∷ (2, alone (plain TAND)) ∷ (3, alone (plain TOR)) ∷ (4, alone (plain PUSH)) ∷ (5, alone (plain POP))
-    ∷ (6, alone (plain DROP)) ∷ (7, alone (plain DUP)) ∷ (8, alone (plain FSWP)) ∷ (9, alone (plain ESWP)) ∷ (10, alone END)
+    (0, alone (plain INIT)) ∷ (1, alone (plain NOT)) ∷ (2, alone (plain TAND)) ∷ (3, alone (plain TOR))
+    ∷ (4, alone (plain PUSH)) ∷ (5, alone (plain POP)) ∷ (6, alone (plain DROP)) ∷ (7, alone (plain DUP))
+    ∷ (8, alone (plain FSWP)) ∷ (9, alone (plain ESWP)) ∷ (10, alone END)
     ∷ (16, withExpr LOAD) ∷ (17, withExpr AND) ∷ (18, withExpr OR) ∷ (19, withExpr EPUSH)
     ∷ (32, withVar STORE) ∷ (33, withVar SET) ∷ (34, withVar RES) ∷ (35, withVar REDGE) ∷ (36, withVar FEDGE)
     ∷ (48, withLabel JP) ∷ (49, withLabel JPC) ∷ (50, withLabel JS) ∷ (51, withLabel JSC) ∷ []
@@ -135,4 +136,5 @@ entries p (x ∷ xs) = bytesOf 2 p ++ entries (p + length (bodyOf x)) xs
 
 -- R15: the file of a program.
 unfoldable pub writeProgram : Edition → Program → List ℕ
-writeProgram e P = writeHeader e (e .programMark) (P .shape) (length (P .instrs)) ++ (entries 0 (P .instrs) ++ flatMap bodyOf (P .instrs))
+writeProgram e P =
+    writeHeader e (e .programMark) (P .shape) (length (P .instrs)) ++ (entries 0 (P .instrs) ++ flatMap bodyOf (P .instrs))

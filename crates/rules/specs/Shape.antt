@@ -35,7 +35,12 @@ checkShape e sh = do
 unfoldable pub shapeAt : Edition → List ℕ → Shape
 shapeAt e file =
     let w = e .countBytes in
-    record { depth = getD file 1 0; inputs = numberAt w file 2; outputs = numberAt w file (2 + w); memory = numberAt w file (2 + w + w) }
+    record {
+      depth = getD file 1 0;
+      inputs = numberAt w file 2;
+      outputs = numberAt w file (2 + w);
+      memory = numberAt w file (2 + w + w);
+    }
 
 -- R7, R46: reads a header that begins with the mark. Refuses a short file, another mark, a bad shape.
 unfoldable pub readHeader : Edition → ℕ → List ℕ → Verdict Shape
