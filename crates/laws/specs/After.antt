@@ -112,7 +112,7 @@ pub record Stage (C : ℕ) (t : List Row) (x : List ℕ) (u : List Row) (y : Lis
 
 module _ {C : ℕ} (t : List Row) (x : List ℕ) (u : List Row) (y : List ℕ) (X : Stands C (over t x)) (w : Canonical C u) where
   closed : (k : ℕ) (r : Row) → k < length u → rowAt u k ≡ r → reaches u y k ≡ true → Operands (λ a. reaches u y a ≡ true) r
-  closed k r = reaches-operands u (λ i h. op-earlier w i (rowAt u i) h refl) y k r
+  closed k r = reaches-operands u w y k r
 
   -- The head that replaces leaf i has the leaf's value on the storage that x leaves.
   head-value : (i : ℕ) → i < 2 + C → (s : List Bool)

@@ -17,6 +17,7 @@ use Rattle.rules.specs.SetFile.{allBelow, makes, fits}
 use Rattle.laws.specs.Verdict.{both-true}
 use Rattle.laws.specs.Canonical.{Below}
 use Rattle.laws.specs.Bytes.{Bytes, getD-part, drop-part, take-cons, take-parts, length-bytes, number-read, number-write}
+use Rattle.laws.specs.Rule.{Ready}
 use Rattle.laws.specs.Rows.{same-true, same-refl, find-first, find-at}
 
 -- ---- rows that fit
@@ -86,15 +87,13 @@ pub record Operation (k : ℕ) (r : Row) : Type 0 where
   pub one : left r ≤ k
   pub two : right r ≤ k
 
--- A row that the rule could make, with operands below k, is such a row.
-pub operation : (t : List Row) (k : ℕ) (r : Row) → Below k r → plan t r ≡ make r → Operation k r
+-- An operation over rows below k is such a row.
+pub operation : (k : ℕ) (r : Row) → Ready k r → Operation k r
 unfolding rowOf
-operation t k (leaf i) h e =
-    let z : _≡_ {A = ℕ} 0 1 = cc in
-    absurd (omega arith)
-operation t k (inv a) h e = record { back = refl; one = omega arith; two = omega arith }
-operation t k (bin true a b) h e = record { back = refl; one = omega arith; two = omega arith }
-operation t k (bin false a b) h e = record { back = refl; one = omega arith; two = omega arith }
+operation k (leaf i) h = absurd h
+operation k (inv a) h = record { back = refl; one = omega arith; two = omega arith }
+operation k (bin true a b) h = record { back = refl; one = omega arith; two = omega arith }
+operation k (bin false a b) h = record { back = refl; one = omega arith; two = omega arith }
 
 -- Reading at p the row that was written there.
 pub row-read : (k p : ℕ) (r : Row) (file rest : List ℕ) → k ≤ mostRows → Operation k r → drop p file ≡ rowBytes r ++ rest

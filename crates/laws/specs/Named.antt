@@ -19,8 +19,8 @@ use Rattle.laws.specs.Canonical.{Below, Canonical}
 use Rattle.laws.specs.Rows.{base-take}
 use Rattle.laws.specs.Reach.{operands-low, needs-keeps, needs-closed, needs-origin, NamedBy, Operands, reaches-operands}
 use Rattle.laws.specs.After.{Stands, over, snoc-length, snoc-each}
-use Rattle.laws.specs.Rule.{canonical-ready, op-earlier, Ready}
-use Rattle.laws.specs.Squeeze.{ren, carry-op, unchanging-at, Packed, packed}
+use Rattle.laws.specs.Rule.{canonical-below, canonical-ready, Ready}
+use Rattle.laws.specs.Squeeze.{ren, Source, carry-op, unchanging-at, Packed, packed}
 
 -- A row of the list names a.
 pub record Namer (a : ℕ) (l : List Row) : Type 0 where
@@ -71,9 +71,6 @@ named-row t x k j h g e =
     elem-append k x (flatMap operands (drop (suc k) t)) ∙ rw n (or-true (elem k x))
 
 module _ {C : ℕ} (t : List Row) (x : List ℕ) (w : Canonical C t) where
-  below : (i : ℕ) → i < length t → Below i (rowAt t i)
-  below i h = op-earlier w i (rowAt t i) h refl
-
   -- Where every operation row is named, every one is reached, from the last row down.
   all-reached : ((k : ℕ) → 2 + C ≤ k → k < length t → named t x k ≡ true) → (d k : ℕ) → length t ≤ k + d → 2 + C ≤ k
       → k < length t → reaches t x k ≡ true
@@ -90,7 +87,7 @@ module _ {C : ℕ} (t : List Row) (x : List ℕ) (w : Canonical C t) where
           let m = elem-namer k (drop (suc k) t) p in
           let j = suc k + m .at in
           let l : j < length t = omega (arith, m .low, length-drop (suc k) t) in
-          needs-closed t below (length t) j k x (omega arith) l (rest j (omega arith) (omega arith) l)
+          needs-closed t (canonical-below w) (length t) j k x (omega arith) l (rest j (omega arith) (omega arith) l)
           (rw (← (getD-drop (suc k) t (m .at) (leaf 0))) (m .names))
 
 elem-map : (g : ℕ → ℕ) (a : ℕ) (l : List ℕ) → elem a l ≡ true → elem (g a) (map g l) ≡ true
@@ -120,7 +117,7 @@ pub squeeze-named : {C : ℕ} {t : List Row} {x : List ℕ} → Stands C (over t
     → p < length (squeeze C t x .tab)
     → named (squeeze C t x .tab) (squeeze C t x .heads) p ≡ true
 unfolding squeeze
-squeeze-named {C} {t} {x} X p h l = go (needs-origin t (length t) (o .0) x (o .3))
+squeeze-named {C} {t} {x} X p h l = go (needs-origin t (length t) (o .at) x (o .reached))
   where
     w : Canonical C t
     w = X .canonical
@@ -134,21 +131,21 @@ squeeze-named {C} {t} {x} X p h l = go (needs-origin t (length t) (o .0) x (o .3
     N : ℕ → ℕ
     N a = getD (m .new) a 0
 
-    o : (i : ℕ) × (i < length t) × (2 + C ≤ i) × (reaches t x i ≡ true) × (N i ≡ p)
+    o : Source t x w (length t) p (m .new)
     o = g .onto p h l
 
-    go : (elem (o .0) x ≡ true) ⊎ NamedBy t (length t) (o .0) x → named (m .tab) (map N x) p ≡ true
-    go (inl e) = named-head (m .tab) (map N x) p (rw (o .4) at (elem-map N (o .0) x e))
+    go : (elem (o .at) x ≡ true) ⊎ NamedBy t (length t) (o .at) x → named (m .tab) (map N x) p ≡ true
+    go (inl e) = named-head (m .tab) (map N x) p (rw (o .is) at (elem-map N (o .at) x e))
     go (inr n) =
         let j = n .by in
-        let i<j : o .0 < j = operand-below j (o .0) (rowAt t j) (below t x w j (n .low)) (n .names) in
+        let i<j : o .at < j = operand-below j (o .at) (rowAt t j) (canonical-below w j (n .low)) (n .names) in
         let at = g .placed j (n .low) (n .needed) in
-        let ready = canonical-ready w j (omega (arith, o .2)) (n .low) in
-        let q : operands (rowAt (m .tab) (N j)) ≡ map N (operands (rowAt t j)) = ap operands (at .row (omega (arith, o .2)))
+        let ready = canonical-ready w j (omega (arith, o .high)) (n .low) in
+        let q : operands (rowAt (m .tab) (N j)) ≡ map N (operands (rowAt t j)) = ap operands (at .row (omega (arith, o .high)))
         ∙ operands-ren (m .new) j (rowAt t j) ready in
-        let up : N (o .0) < N j = g .rising (o .0) j i<j (n .low) (o .3) (n .needed) in
-        named-row (m .tab) (map N x) p (N j) (omega (arith, o .4)) (at .low)
-        (rw q (rw (o .4) at (elem-map N (o .0) (operands (rowAt t j)) (n .names))))
+        let up : N (o .at) < N j = g .rising (o .at) j i<j (n .low) (o .reached) (n .needed) in
+        named-row (m .tab) (map N x) p (N j) (omega (arith, o .is)) (at .low)
+        (rw q (rw (o .is) at (elem-map N (o .at) (operands (rowAt t j)) (n .names))))
 
 ren-same : (new : List ℕ) (k : ℕ) (r : Row) → Ready k r → Operands (λ a. getD new a 0 ≡ a) r → ren new r ≡ r
 ren-same new k (leaf i) h e = absurd h
@@ -201,7 +198,7 @@ module _ {C : ℕ} {t : List Row} {x : List ℕ} (X : Stands C (over t x)) (all 
           let here : m .tab ≡ take k t = g .tab ∙ taken (max k (2 + C)) k (omega arith) in
           let tall : length (m .tab) ≡ k = ap length here ∙ length-take-le k t (omega arith) in
           let copy : ren (m .new) (rowAt t k) ≡ rowAt t k = ren-same (m .new) k (rowAt t k) ready
-          (own (rowAt t k) ready (reaches-operands t (below t x w) x k (rowAt t k) h refl q)) in
+          (own (rowAt t k) ready (reaches-operands t w x k (rowAt t k) h refl q)) in
           rw (carry-op append (unchanging C) m k (rowAt t k) ready)
           (fixed-snoc k m (m .tab ++ (ren (m .new) (rowAt t k) ∷ [])) (length (m .tab)) g
           (ap₂ {C = List Row} (λ a r. a ++ (r ∷ [])) here copy ∙ sym (take-suc t k (leaf 0) h)

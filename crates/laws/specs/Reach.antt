@@ -13,7 +13,8 @@ use Rattle.rules.specs.Lists.{elem}
 use Rattle.rules.specs.Rows.{Row, leaf, inv, bin, rowAt}
 use Rattle.rules.specs.Sets.{operands, needs, reaches}
 use Rattle.laws.specs.Lists.{elem-append}
-use Rattle.laws.specs.Canonical.{Below}
+use Rattle.laws.specs.Canonical.{Below, Canonical}
+use Rattle.laws.specs.Rule.{canonical-below}
 
 -- Numbers from k on are no operands of a row whose operands are below k.
 pub operands-low : (k j : ℕ) (r : Row) → Below k r → k ≤ j → elem j (operands r) ≡ false
@@ -75,15 +76,15 @@ Operands Q (inv a) = Q a
 Operands Q (bin o a b) = Q a × Q b
 
 -- The operands of a reached row are reached.
-pub reaches-operands : (t : List Row) → ((i : ℕ) → i < length t → Below i (rowAt t i)) → (x : List ℕ) (k : ℕ) (r : Row)
+pub reaches-operands : {C : ℕ} (t : List Row) → Canonical C t → (x : List ℕ) (k : ℕ) (r : Row)
     → k < length t → rowAt t k ≡ r
     → reaches t x k ≡ true → Operands (λ a. reaches t x a ≡ true) r
 unfolding elem
-reaches-operands t b x k (leaf i) h e q = tt
-reaches-operands t b x k (inv a) h e q = needs-closed t b (length t) k a x (omega arith) h q (rw (e, eq-eqb a a refl))
-reaches-operands t b x k (bin o a c) h e q = (
-  needs-closed t b (length t) k a x (omega arith) h q (rw (e, eq-eqb a a refl)),
-  needs-closed t b (length t) k c x (omega arith) h q (rw (e, eq-eqb c c refl) (or-true (eqb c a))),
+reaches-operands t w x k (leaf i) h e q = tt
+reaches-operands t w x k (inv a) h e q = needs-closed t (canonical-below w) (length t) k a x (omega arith) h q (rw (e, eq-eqb a a refl))
+reaches-operands t w x k (bin o a c) h e q = (
+  needs-closed t (canonical-below w) (length t) k a x (omega arith) h q (rw (e, eq-eqb a a refl)),
+  needs-closed t (canonical-below w) (length t) k c x (omega arith) h q (rw (e, eq-eqb c c refl) (or-true (eqb c a))),
 )
 
 -- A needed number is one of those asked for, or an operand of a needed row.

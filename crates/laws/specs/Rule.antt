@@ -91,10 +91,12 @@ module _ {C : ℕ} {t : List Row} (w : Canonical C t) where
   pub one-is : (s : List Bool) → value t s 1 ≡ true
   one-is s = canonical-value w s 1 (omega (arith, w .long)) ∙ ap (meaning t s) (w .leaf-at 1 (omega arith))
 
-  -- A row of a canonical table that is an operation has its operands earlier.
+  -- Every row of a canonical table has its operands earlier.
+  pub canonical-below : (i : ℕ) → i < length t → Below i (rowAt t i)
+  canonical-below i h = elim (decLt i (2 + C)) [ yes p ↦ rw (w .leaf-at i p) tt | no p ↦ w .earlier i (omega arith) h ]
+
   pub op-earlier : (a : ℕ) (r : Row) → a < length t → rowAt t a ≡ r → Below a r
-  op-earlier a r h e =
-      elim (decLt a (2 + C)) [ yes p ↦ rw (sym e ∙ w .leaf-at a p) tt | no p ↦ rw e at (w .earlier a (omega arith) h) ]
+  op-earlier a r h e = rw e at (canonical-below a h)
 
   planNot-right : (a : ℕ) (r : Row) → a < length t → rowAt t a ≡ r → Right t (inv a) (planNot a r)
   unfolding value

@@ -21,6 +21,7 @@ use Rattle.laws.specs.Canonical.{Sensible, Proper}
 use Rattle.laws.specs.Lists.{length-from, map-from, getD-map-from, search-none, search-all, none-search}
 use Rattle.laws.specs.Bytes.{Bytes, drop-part, take-parts, length-bytes, number-read, number-write}
 use Rattle.laws.specs.Bytes.{length-table, table-read, table-write}
+use Rattle.laws.specs.Rule.{canonical-ready}
 use Rattle.laws.specs.Rows.{length-base, base-at, base-take}
 use Rattle.laws.specs.Shape.{Headed, length-header, header-read, header-granted, header-write}
 use Rattle.laws.specs.Fits.{Fits, fits-true, true-fits, length-row, operation, row-read, row-write}
@@ -203,9 +204,7 @@ module _ (e : Edition) (z : TransferSet) (p : Proper e z) (file : List ℕ)
       let after = drop-part file (headerEnd e) (2 * cells sh) (flatMap (bytesOf 2) (z .heads)) rows wide body
       ∙ sym (append-nil rows) in
       let at = table-read rowBytes 5 length-row (operations z) j (headAt e (cells sh)) (leaf 0) file [] h after in
-      let earlier = p .canonical .earlier i (omega arith) (omega arith) in
-      let normal = p .canonical .normal i (omega arith) (omega arith) in
-      let o = operation (z .tab) i (rowAt (z .tab) i) earlier normal in
+      let o = operation i (rowAt (z .tab) i) (canonical-ready (p .canonical) i (omega arith) (omega arith)) in
       row-read i (rowPlace e sh j) (getD (operations z) j (leaf 0)) file _ (omega arith) (rw getD-drop o) at
 
   -- What the file spells is the set.

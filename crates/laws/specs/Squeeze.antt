@@ -13,7 +13,7 @@ use Rattle.rules.specs.Rows.{Row, leaf, inv, bin, base, rowOfCell, rowAt, value
 use Rattle.rules.specs.Sets.{act, unchanging, reaches, Carried, carryOne, carryRow, carry, moved, after, append, squeeze}
 use Rattle.laws.specs.Lists.{length-from, getD-from}
 use Rattle.laws.specs.Canonical.{Below, Canonical}
-use Rattle.laws.specs.Rule.{Ready, base-canonical, below-more, canonical-ready, op-earlier, planBin-made, planBin-normal, planNot-made, planNot-normal, zero-is}
+use Rattle.laws.specs.Rule.{Ready, base-canonical, below-more, canonical-below, canonical-ready, planBin-made, planBin-normal, planNot-made, planNot-normal, zero-is}
 use Rattle.laws.specs.Rows.{cell-value, Inserts, stood, fresh, inserts, base-at, length-base}
 use Rattle.laws.specs.Grow.{Ext, ext-refl, ext-trans, ext-length, ext-row}
 use Rattle.laws.specs.Reach.{Operands, reaches-operands}
@@ -58,18 +58,22 @@ module _ {C : ℕ} (t : List Row) (x : List ℕ) (w : Canonical C t) where
     pub low : a < length u
     pub row : 2 + C ≤ i → rowAt u a ≡ ren new (rowAt t i)
 
+  -- The operation row, among the first k, that got the number p.
+  pub record Source (k p : ℕ) (new : List ℕ) : Type 0 where
+    pub at : ℕ
+    pub low : at < k
+    pub high : 2 + C ≤ at
+    pub reached : R at ≡ true
+    pub is : getD new at 0 ≡ p
+
   -- After k rows: those that are reached are placed, in rising order, and they fill the table.
   pub record Packed (k : ℕ) (m : Carried) : Type 0 where
     pub size : length (m .new) ≡ k
     pub grown : Ext (base C) (m .tab)
     pub placed : (i : ℕ) → i < k → R i ≡ true → Placed i (getD (m .new) i 0) (m .tab) (m .new)
     pub rising : (i j : ℕ) → i < j → j < k → R i ≡ true → R j ≡ true → getD (m .new) i 0 < getD (m .new) j 0
-    pub onto : (p : ℕ) → 2 + C ≤ p → p < length (m .tab)
-        → (i : ℕ) × (i < k) × (2 + C ≤ i) × (R i ≡ true) × (getD (m .new) i 0 ≡ p)
+    pub onto : (p : ℕ) → 2 + C ≤ p → p < length (m .tab) → Source k p (m .new)
     pub few : length (m .tab) ≤ 2 + C + (k - (2 + C))
-
-  below : (i : ℕ) → i < length t → Below i (rowAt t i)
-  below i h = op-earlier w i (rowAt t i) h refl
 
   -- One row more, which got the number a in the table u.
   packed-step : (k : ℕ) (m : Carried) → Packed k m → k < length t → (a : ℕ) (u : List Row) → Ext (m .tab) u
@@ -88,8 +92,12 @@ module _ {C : ℕ} (t : List Row) (x : List ℕ) (w : Canonical C t) where
       | no f ↦ (let z : j ≡ k = omega arith in rw (z, last, old i (omega arith)) (above (rw z at r) i (omega arith) q))
     ];
     onto = λ p l f. elim (decLt p (length (m .tab))) [
-      | yes c ↦ (let o = g .onto p l c in (o .0, omega arith, o .2, o .3, old (o .0) (o .1) ∙ o .4))
-      | no c ↦ (let o = fills p (omega arith) f in (k, omega arith, o .0, o .1, last ∙ o .2))
+      | yes c ↦
+          let o = g .onto p l c in
+          record { at = o .at; low = omega (arith, o .low); high = o .high; reached = o .reached; is = old (o .at) (o .low) ∙ o .is }
+      | no c ↦
+          let o = fills p (omega arith) f in
+          record { at = k; low = omega arith; high = o .0; reached = o .1; is = last ∙ o .2 }
     ];
     few = small;
   }
@@ -106,7 +114,7 @@ module _ {C : ℕ} (t : List Row) (x : List ℕ) (w : Canonical C t) where
         high = p .high;
         low = omega (arith, p .low, ext-length e);
         row = λ c. ext-row e b (p .low) ∙ p .row c
-            ∙ sym (ren-kept (m .new) a k (rowAt t i) (g .size) (below-more i k (rowAt t i) l (below i (omega arith))));
+            ∙ sym (ren-kept (m .new) a k (rowAt t i) (g .size) (below-more i k (rowAt t i) l (canonical-below w i (omega arith))));
       }
 
   -- Every row keeps the packing.
@@ -167,7 +175,7 @@ module _ {C : ℕ} (t : List Row) (x : List ℕ) (w : Canonical C t) where
     N a = getD (m .new) a 0
 
     closed : (i : ℕ) (r : Row) → i < length t → rowAt t i ≡ r → R i ≡ true → Operands (λ a. R a ≡ true) r
-    closed i r = reaches-operands t below x i r
+    closed i r = reaches-operands t w x i r
 
     N-tall : (a : ℕ) → a < k → R a ≡ true → 2 ≤ a → 2 ≤ N a
     N-tall a p c two = elim (decLt a (2 + C)) [
@@ -255,11 +263,11 @@ module _ {C : ℕ} (t : List Row) (x : List ℕ) (w : Canonical C t) where
         none p f e = elim (decLt p (2 + C)) [
           | yes c ↦ copied (rowAt t k) ready p (sym (base-row p c) ∙ e)
           | no c ↦ (let o = g .onto p (omega arith) f in
-              let at = g .placed (o .0) (o .1) (o .3) .row (o .2) in
-              w .distinct (o .0) k (o .1) l
-              (copy-one (o .0) (o .1) (o .3) (rowAt t (o .0)) (rowAt t k) refl refl
-              (canonical-ready w (o .0) (o .2) (omega (arith, o .1))) ready
-              (sym at ∙ ap (rowAt (m .tab)) (o .4) ∙ e)))
+              let at = g .placed (o .at) (o .low) (o .reached) .row (o .high) in
+              w .distinct (o .at) k (o .low) l
+              (copy-one (o .at) (o .low) (o .reached) (rowAt t (o .at)) (rowAt t k) refl refl
+              (canonical-ready w (o .at) (o .high) (omega (arith, o .low))) ready
+              (sym at ∙ ap (rowAt (m .tab)) (o .is) ∙ e)))
         ]
 
         put : Inserts (m .tab) (ren (m .new) (rowAt t k))

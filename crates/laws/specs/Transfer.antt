@@ -216,16 +216,17 @@ module _ (P : Program) where
       let here : x ≡ getD (P .instrs) i END = f .same 0 (omega arith) ∙ ap (λ k. getD (P .instrs) k END) (omega arith) in
       rw here (turn-made wf i (omega (arith, f .size)) (turns sh (suc i) xs) (turns-made wf (suc i) xs rest))
 
-  built : WellFormed P → Made 0 (turns sh 0 (P .instrs))
-  built wf = turns-made wf 0 (P .instrs)
+  -- Every T(l) of a program stands in the one table, and evaluating it is what the machine does from l on.
+  pub transfer-made : WellFormed P → Made 0 (turns sh 0 (P .instrs))
+  transfer-made wf = turns-made wf 0 (P .instrs)
       (record { size = omega arith; same = λ j h. ap (λ k. getD (P .instrs) k END) (omega arith) })
 
   -- The program's set stands.
   pub transfer-stands : WellFormed P → Stands (cells sh) (transfer P)
   unfolding transfer
-  transfer-stands wf = built wf .stands 0 (omega arith) (wf .some)
+  transfer-stands wf = transfer-made wf .stands 0 (omega arith) (wf .some)
 
   -- Evaluating the program's set is what the machine does from instruction 0.
   pub transfer-does : WellFormed P → (s : List Bool) → Does P 0 s (act (transfer P .tab) (transfer P .heads) s)
   unfolding transfer
-  transfer-does wf = built wf .does 0 (omega arith) (wf .some)
+  transfer-does wf = transfer-made wf .does 0 (omega arith) (wf .some)
