@@ -10,7 +10,7 @@ use lib.Dec.{ltb, eqb}
 use borrow.Author.Tests.{ltb-false, eqb-true, not-false}
 use Rattle.rules.specs.Verdict.{granted}
 use Rattle.rules.specs.Lists.{seek}
-use Rattle.rules.specs.Edition.{Edition}
+use Rattle.rules.specs.Edition.{Edition, old}
 use Rattle.rules.specs.Shape.{Shape, cells, checkShape}
 use Rattle.rules.specs.ProgramFile.{Program, readProgram}
 use Rattle.rules.specs.Machine.{due, stopped, run, Scanned, scanProgram}
@@ -30,6 +30,10 @@ use Rattle.laws.specs.Transfer.{transfer-stands, transfer-does}
 use Rattle.laws.specs.Squeeze.{unchanging-stands}
 use Rattle.laws.specs.SetFile.{read-write, read-proper, write-read}
 use Rattle.laws.specs.Compose.{Whole, proper-whole, setOf-acts, setOf-proper, composed-stands, unchanging-before, unchanging-after}
+
+-- The edition there is, is sensible.
+pub old-sensible : Sensible old
+old-sensible = record { counts-fit = omega arith }
 
 -- ---- what is written
 

@@ -2,6 +2,7 @@
 use Prim.Native.Nat.{ℕ, suc, _≤_, _<_}
 use mathlib.Core.Path.{_≡_, ap}
 use mathlib.Core.List.{List, [], _∷_}
+use mathlib.Core.Logic.{_↔_}
 use native.Mathlib.Omega.{arith}
 use native.Mathlib.Decide.{decLt}
 use lib.ListN.{length, length-append}
@@ -10,9 +11,9 @@ use Rattle.rules.specs.Instr.{Instr}
 use Rattle.rules.specs.ProgramFile.{Program}
 use Rattle.rules.specs.Rows.{Row, base, Plan, have, make, plan, insert, settle, add}
 use Rattle.rules.specs.Build.{setAt, turn, turns, transfer}
-use Rattle.rules.specs.SetFile.{TransferSet}
+use Rattle.rules.specs.SetFile.{TransferSet, leaves}
 use Rattle.rules.specs.Operations.{composed}
-use Rattle.laws.specs.Rows.{Inserts, stood, fresh, inserts}
+use Rattle.laws.specs.Rows.{Inserts, stood, fresh, inserts, length-base}
 use Rattle.laws.specs.Grow.{ext-length, Grown, bare, plus, grown-trans, grown-ext}
 use Rattle.laws.specs.After.{after-grown}
 use Rattle.laws.specs.Build.{turnHeads-grown}
@@ -87,3 +88,12 @@ room-met n (plus {u = u} p r) h g = elim (decLt n (length u)) [
 
 pub met-room : {t u : List Row} (n : ℕ) → Met n t u → n < length u
 met-room n m = omega (arith, m .appends, ext-length (grown-ext (m .to-end)))
+
+-- So building and composing meet a full table exactly where the finished one is longer than the room.
+pub build-room : (P : Program) (n : ℕ) → leaves (P .shape) ≤ n
+    → (n < length (transfer P .tab)) ↔ Met n (base (cells (P .shape))) (transfer P .tab)
+build-room P n h = (room-met n (transfer-grown P) (omega (arith, length-base (cells (P .shape)))), met-room n)
+
+pub compose-room : (X Y : TransferSet) (n : ℕ) → length (X .tab) ≤ n
+    → (n < length (composed X Y .tab)) ↔ Met n (X .tab) (composed X Y .tab)
+compose-room X Y n h = (room-met n (composed-grown X Y) h, met-room n)
