@@ -178,19 +178,22 @@ module _ (e : Edition) (s : Sensible e) (file : List ℕ) (b : Bytes file) (z : 
         room = omega (arith, p .room, p .canonical .long);
       }
 
-  abbrev none : List ℕ
-  none = writeSet e (unchangingSet (z .shape))
+  -- Its file.
+  abbrev still : List ℕ
+  still = writeSet e (unchangingSet (z .shape))
 
-  pub unchanging-first : (rows numbers out : ℕ) (bytes : List ℕ) → compose e none file rows numbers out ≡ granted bytes
+  -- Composed before a set it gives back the set's bytes.
+  pub unchanging-first : (rows numbers out : ℕ) (bytes : List ℕ) → compose e still file rows numbers out ≡ granted bytes
       → bytes ≡ file
   unchanging-first rows numbers out bytes q =
       let u = read-write e s (unchangingSet (z .shape)) unchanging-proper in
-      compose-accepted e s none file rows numbers out (unchangingSet (z .shape)) z bytes u r q .written
+      compose-accepted e s still file rows numbers out (unchangingSet (z .shape)) z bytes u r q .written
       ∙ ap (writeSet e) (unchanging-before z whole (read-proper e file z r .names)) ∙ write-read e file b z r
 
-  pub unchanging-second : (rows numbers out : ℕ) (bytes : List ℕ) → compose e file none rows numbers out ≡ granted bytes
+  -- Composed after a set it gives back the set's bytes.
+  pub unchanging-second : (rows numbers out : ℕ) (bytes : List ℕ) → compose e file still rows numbers out ≡ granted bytes
       → bytes ≡ file
   unchanging-second rows numbers out bytes q =
       let u = read-write e s (unchangingSet (z .shape)) unchanging-proper in
-      compose-accepted e s file none rows numbers out z (unchangingSet (z .shape)) bytes r u q .written
+      compose-accepted e s file still rows numbers out z (unchangingSet (z .shape)) bytes r u q .written
       ∙ ap (writeSet e) (unchanging-after z whole (read-proper e file z r .names)) ∙ write-read e file b z r
