@@ -10,11 +10,11 @@ use lib.Seq.{getD-append-seam}
 use Rattle.rules.specs.Rows.{Row, leaf, inv, bin, rowAt, value, make, plan, add}
 use Rattle.rules.specs.Sets.{Heads, act, reaches, Carried, carryOne, carryRow, carry, after}
 use Rattle.laws.specs.Lists.{map-ext, map-low, elem-at}
-use Rattle.laws.specs.Canonical.{Canonical}
+use Rattle.laws.specs.Canonical.{Operands, Canonical}
 use Rattle.laws.specs.Rows.{meaning, canonical-value}
 use Rattle.laws.specs.Grow.{Ext, ext-length, ext-value, Grown, bare, grown-one, grown-trans, grown-ext}
 use Rattle.laws.specs.Rule.{zero-is, one-is, op-earlier, Sound, add-sound}
-use Rattle.laws.specs.Reach.{needs-keeps, Operands, reaches-operands}
+use Rattle.laws.specs.Reach.{needs-keeps, reaches-operands}
 
 -- Heads of C cells stand in a canonical table; past the last cell `getD` gives row 0, which stands too.
 pub record Stands (C : ℕ) (h : Heads) : Type 0 where

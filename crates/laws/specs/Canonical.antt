@@ -14,11 +14,15 @@ use Rattle.rules.specs.ProgramFile.{Program}
 use Rattle.rules.specs.Rows.{Row, leaf, inv, rowAt, make, plan}
 use Rattle.rules.specs.SetFile.{TransferSet, leaves, named}
 
+-- Every operand of a row has the property.
+abbrev pub Operands : (ℕ → Type 0) → Row → Type 0
+Operands Q (leaf i) = Unit {0}
+Operands Q (inv a) = Q a
+Operands Q (Rattle.rules.specs.Rows.bin o a b) = Q a × Q b
+
 -- The operands of a row are below k.
 abbrev pub Below : ℕ → Row → Type 0
-Below k (leaf i) = Unit {0}
-Below k (inv a) = a < k
-Below k (Rattle.rules.specs.Rows.bin o a b) = (a < k) × (b < k)
+Below k r = Operands (λ a. a < k) r
 
 -- A table of C cells that the rule could have made: leaves first, then rows that it could append, operands earlier, no two equal.
 pub record Canonical (C : ℕ) (t : List Row) : Type 0 where

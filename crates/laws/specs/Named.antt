@@ -15,9 +15,9 @@ use Rattle.rules.specs.Rows.{Row, leaf, inv, bin, base, rowAt}
 use Rattle.rules.specs.Sets.{unchanging, operands, reaches, Carried, carryRow, carry, append, squeeze}
 use Rattle.rules.specs.SetFile.{named}
 use Rattle.laws.specs.Lists.{elem-append, elem-at, map-ext, map-id}
-use Rattle.laws.specs.Canonical.{Below, Canonical}
+use Rattle.laws.specs.Canonical.{Operands, Below, Canonical}
 use Rattle.laws.specs.Rows.{base-take}
-use Rattle.laws.specs.Reach.{operands-low, needs-keeps, needs-closed, needs-origin, NamedBy, Operands, reaches-operands}
+use Rattle.laws.specs.Reach.{operands-low, needs-keeps, needs-closed, needs-origin, NamedBy, reaches-operands}
 use Rattle.laws.specs.After.{Stands, over, snoc-length, snoc-each}
 use Rattle.laws.specs.Rule.{canonical-below, canonical-ready, Ready}
 use Rattle.laws.specs.Squeeze.{ren, Source, carry-op, unchanging-at, Packed, packed}

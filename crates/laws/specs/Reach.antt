@@ -13,7 +13,7 @@ use Rattle.rules.specs.Lists.{elem}
 use Rattle.rules.specs.Rows.{Row, leaf, inv, bin, rowAt}
 use Rattle.rules.specs.Sets.{operands, needs, reaches}
 use Rattle.laws.specs.Lists.{elem-append}
-use Rattle.laws.specs.Canonical.{Below, Canonical}
+use Rattle.laws.specs.Canonical.{Operands, Below, Canonical}
 use Rattle.laws.specs.Rule.{canonical-below}
 
 -- Numbers from k on are no operands of a row whose operands are below k.
@@ -68,12 +68,6 @@ module _ (t : List Row) (b : (i : ℕ) → i < length t → Below i (rowAt t i))
       top : i ≡ k → elem a (needs t k (more t k x)) ≡ true
       top z = needs-keeps t k a (more t k x)
           (put (elem k x) refl (sym (needs-high k k (more t k x) (omega arith) (omega arith)) ∙ rw z at e) z)
-
--- Every operand of a row has the property.
-abbrev pub Operands : (ℕ → Type 0) → Row → Type 0
-Operands Q (leaf i) = Unit {0}
-Operands Q (inv a) = Q a
-Operands Q (bin o a b) = Q a × Q b
 
 -- The operands of a reached row are reached.
 pub reaches-operands : {C : ℕ} (t : List Row) → Canonical C t → (x : List ℕ) (k : ℕ) (r : Row)

@@ -12,11 +12,11 @@ use Rattle.rules.specs.Lists.{from}
 use Rattle.rules.specs.Rows.{Row, leaf, inv, bin, base, rowOfCell, rowAt, value, make, plan, find, Added, settle, add}
 use Rattle.rules.specs.Sets.{act, unchanging, reaches, Carried, carryOne, carryRow, carry, moved, after, append, squeeze}
 use Rattle.laws.specs.Lists.{length-from, getD-from}
-use Rattle.laws.specs.Canonical.{Below, Canonical}
+use Rattle.laws.specs.Canonical.{Operands, Below, Canonical}
 use Rattle.laws.specs.Rule.{Ready, base-canonical, below-more, canonical-below, canonical-ready, planBin-made, planBin-normal, planNot-made, planNot-normal, zero-is}
 use Rattle.laws.specs.Rows.{cell-value, Inserts, stood, fresh, inserts, base-at, length-base}
 use Rattle.laws.specs.Grow.{Ext, ext-refl, ext-trans, ext-length, ext-row}
-use Rattle.laws.specs.Reach.{Operands, reaches-operands}
+use Rattle.laws.specs.Reach.{reaches-operands}
 use Rattle.laws.specs.After.{Stands, over, snoc-last, snoc-old, snoc-length, snoc-each, after-acts}
 
 -- ---- renumbering

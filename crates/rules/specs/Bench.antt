@@ -21,7 +21,7 @@ use Rattle.rules.specs.Operations.{storageBytes, checkStorage, scan, set
 use Rattle.rules.specs.Text.{ascii}
 use Rattle.rules.specs.Lines.{digits, line, setText, tset}
 
--- What is done: on files, a storage, a shape, and with so much lent.
+-- R65: one example: the operation, and what it is given, in the order of Operations.
 pub data Deed : Type 0 where
   checksProgram checksSet prints : List ℕ → Deed
   scans evaluates : List ℕ → List ℕ → ℕ → Deed

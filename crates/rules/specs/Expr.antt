@@ -6,7 +6,7 @@ use lib.ListN.{length, getD}
 use lib.Dec.{leb, ltb, eqb}
 use Rattle.rules.specs.Verdict.{Verdict, granted, refused, refuseIf, _>>=_}
 
--- R11: a constant, a cell, a negation, or AND (true) or OR (false) of two.
+-- R11, R16: a constant, a cell, a negation, or AND (true) or OR (false) of two.
 pub data Exp : Type 0 where
   con : Bool → Exp
   cell : ℕ → Exp
@@ -18,7 +18,7 @@ abbrev pub op : Bool → Bool → Bool → Bool
 op true a b = a && b
 op false a b = a || b
 
--- R11: the value of an expression on a storage.
+-- R11, R16: the value of an expression on a storage.
 unfoldable pub eval : List Bool → Exp → Bool
 eval s (con b) = b
 eval s (cell c) = getD s c false
@@ -59,7 +59,7 @@ readOperands (two o) p rec = do
   granted (record { got = bin o (x .got) (y .got); next = y .next })
 readOperands bad p rec = refused 6 p
 
--- R11, R48: the expression at p, which must end by `stop`; operands may nest k deep, and stop - p is enough.
+-- R11, R48: the expression at p, which must end by `stop`. k bounds the nesting so that reading ends; k = stop - p cuts none short.
 unfoldable pub readExpr : ℕ → List ℕ → ℕ → ℕ → ℕ → Verdict (Read Exp)
 readExpr zero file v stop p = refused 6 stop
 readExpr (suc k) file v stop p = do

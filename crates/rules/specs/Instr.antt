@@ -7,7 +7,7 @@ use Rattle.rules.specs.Lists.{from}
 use Rattle.rules.specs.Shape.{Shape, flag, cells}
 use Rattle.rules.specs.Expr.{Exp, con, cell, neg, bin}
 
--- R10: the instructions that go on to the next one.
+-- R10, R22: the instructions after which the next one is due.
 pub data Plain : Type 0 where
   INIT NOT TAND TOR PUSH POP DROP DUP FSWP ESWP : Plain
   LOAD AND OR EPUSH : Exp → Plain
@@ -19,7 +19,7 @@ pub data Instr : Type 0 where
   JP JPC JS JSC : ℕ → Instr
   END : Instr
 
--- R16: a cell's expression where b gets x and g tells the others.
+-- R16: cell c's new value: x if c is b, else what g gives.
 unfoldable pub put : ℕ → Exp → (ℕ → Exp) → ℕ → Exp
 put b x g c = cond (eqb c b) x (g c)
 

@@ -1,4 +1,5 @@
--- docs/RULES.md as definitions: a module for each group of rules, in reading order. Every definition cites its rule's number.
+-- docs/RULES.md as definitions: a module for each group of rules, in reading order. A comment cites the rules that the definitions below it render,
+-- up to the next comment. Module Lists holds words on lists that no rule names.
 -- Not here: theorems about the definitions (crate `laws`), and code.
 pub mod Verdict
 pub mod Lists

@@ -54,11 +54,11 @@ setText z =
     ++ (flatMap (λ c. line (cellName c) (ascii "=" ∷ rowName (getD (z .heads) c 0) ∷ [])) (from 0 C)
     ++ flatMap (λ k. line (rowName k) (ascii "=" ∷ operation (rowAt (z .tab) k))) (from (leaves (z .shape)) r))
 
--- R63: the text of an answer: the set, or the one line of a refusal.
+-- R62, R63: the text of an answer: the set, or the one line of a refusal.
 abbrev pub answerText : Verdict TransferSet → List ℕ
 answerText (granted z) = setText z
 answerText (refused n p) = line (ascii "refused") (decimal n ∷ ascii "at" ∷ decimal p ∷ [])
 
--- R64: what `tset` prints of its standard input.
+-- R64: what `tset` prints of its standard input: the set in the file just built, which is always accepted.
 unfoldable pub tset : List ℕ → List ℕ
 tset input = answerText (build old (take 34312 input) 8192 8192 16384 40957 >>= readSet old)

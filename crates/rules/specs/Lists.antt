@@ -1,4 +1,4 @@
--- Numbers in bytes, and the few words on lists that the rules are said with.
+-- Numbers in bytes, and the few words on lists that the rules are said with; those cite no rule.
 use Prim.Native.Nat.{ℕ, zero, suc, _+_, _*_, _/_, _%_}
 use mathlib.Core.Bool.{Bool, true, false, _||_}
 use mathlib.Core.List.{List, [], _∷_}

@@ -47,7 +47,7 @@ pub record Scanned : Type 0 where
   pub steps : ℕ
   pub storage : List Bool
 
--- R25: steps until the stop, of which n are done, with a budget for k more.
+-- R25, R46: steps until the stop, of which n are done, with a budget for k more.
 unfoldable pub scanFrom : Program → ℕ → ℕ → State → Verdict Scanned
 scanFrom P zero n (due i s r) = refused 11 i
 scanFrom P zero n (stopped s) = granted (record { steps = n; storage = s })

@@ -1,4 +1,4 @@
--- The operations on bytes and lent room: what each answers, refusals in their order, and what it leaves in what was lent.
+-- R65: the operations on bytes and lent room: what each answers, refusals in their order, and what it leaves in what was lent.
 use Prim.Native.Nat.{ℕ}
 use mathlib.Core.Bool.{Bool, true, false, not, _&&_, _||_}
 use mathlib.Core.List.{List, _++_, map}
@@ -42,7 +42,7 @@ scan e file storage budget = do
 abbrev pub evaluateSet : TransferSet → List Bool → List Bool
 evaluateSet z s = act (z .tab) (z .heads) s
 
--- R36: the set that heads over a table are, in its own numbering.
+-- R36: the set given by heads over a table, in its own numbering.
 unfoldable pub setOf : Shape → Heads → TransferSet
 setOf sh h =
     let q = squeeze (cells sh) (h .tab) (h .heads) in
@@ -69,13 +69,14 @@ writeInto e held out z = do
   _ ← refuseIf (ltb out (length (writeSet e z))) 10 held
   granted (writeSet e z)
 
--- R54, R59: refuses a finished table that is longer than the room, then writes its set.
+-- R54, R59: the end of building and composing. Rows are never dropped, so an append found no free row exactly if the finished table
+-- is longer than the room (laws, module Room). Then the set is written.
 unfoldable pub finish : Edition → Shape → ℕ → ℕ → Heads → Verdict (List ℕ)
 finish e sh rows out h = do
   _ ← refuseIf (ltb (room rows) (length (h .tab))) 10 (room rows)
   writeInto e (length (h .tab)) out (setOf sh h)
 
--- R51, R54, R55: builds a program's set with so many rows, numbers and heads lent.
+-- R51, R54, R55: builds a program's set; so many rows (the shortest slice of them), numbers, heads and bytes of output are lent.
 unfoldable pub build : Edition → List ℕ → ℕ → ℕ → ℕ → ℕ → Verdict (List ℕ)
 build e file rows numbers heads out = do
   P ← readProgram e file
@@ -83,7 +84,7 @@ build e file rows numbers heads out = do
   _ ← refuseIf (ltb numbers (numbersToBuild rows) || ltb heads (headsToBuild P)) 10 0
   finish e (P .shape) rows out (transfer P)
 
--- R51, R57: evaluates a set file on a storage, with so many values lent.
+-- R51, R54, R57: evaluates a set file on a storage; so many values are lent.
 unfoldable pub evaluate : Edition → List ℕ → List ℕ → ℕ → Verdict (List Bool)
 evaluate e file storage lent = do
   z ← readSet e file
@@ -96,7 +97,7 @@ abbrev pub sameShape : Shape → Shape → Bool
 sameShape a b =
     eqb (a .depth) (b .depth) && (eqb (a .inputs) (b .inputs) && (eqb (a .outputs) (b .outputs) && eqb (a .memory) (b .memory)))
 
--- R51, R54, R56: composes two set files, with so many rows and numbers lent.
+-- R51, R54, R56: composes two set files; so many rows, numbers and bytes of output are lent.
 unfoldable pub compose : Edition → List ℕ → List ℕ → ℕ → ℕ → ℕ → Verdict (List ℕ)
 compose e first second rows numbers out = do
   X ← readSet e first
@@ -106,7 +107,7 @@ compose e first second rows numbers out = do
   _ ← refuseIf (ltb numbers (numbersToCompose X Y)) 10 0
   finish e (X .shape) rows out (composed X Y)
 
--- R51: which file a refusal of composing is about.
+-- R51: which file a refusal of composing is about; neither also where it is granted.
 pub data Blamed : Type 0 where
   firstFile secondFile neither : Blamed
 
@@ -118,16 +119,16 @@ blame (granted a) (granted b) = neither
 abbrev pub blamed : Edition → List ℕ → List ℕ → Blamed
 blamed e first second = blame (readSet e first) (readSet e second)
 
--- R58: writes the unchanging set of a shape.
+-- R58, R59: writes the unchanging set of a shape.
 unfoldable pub writeUnchanging : Edition → Shape → ℕ → Verdict (List ℕ)
 writeUnchanging e sh out = do
   _ ← checkShape e sh
   writeInto e (leaves sh) out (unchangingSet sh)
 
--- R52: what a call leaves in a lent storage, in a lent output and in a work slice.
-abbrev pub storageAfter : Verdict (List Bool) → List ℕ → List ℕ
-storageAfter (granted s) lent = storageBytes s
-storageAfter (refused n p) lent = lent
+-- R52: what a call leaves in a lent storage, where `of` tells the bits from its answer; in a lent output; in a work slice.
+abbrev pub storageAfter : {A : Type 0} → (A → List Bool) → Verdict A → List ℕ → List ℕ
+storageAfter of (granted a) lent = storageBytes (of a)
+storageAfter of (refused n p) lent = lent
 
 abbrev pub outputAfter : Verdict (List ℕ) → List ℕ → List ℕ
 outputAfter (granted bytes) lent = bytes ++ drop (length bytes) lent

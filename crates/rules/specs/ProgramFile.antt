@@ -90,7 +90,7 @@ isEnd (JS l) = false
 isEnd (JSC l) = false
 isEnd END = true
 
--- R48: reads a program file: header, count, contents, instruction by instruction, nothing after them, END last.
+-- R8, R14, R48: reads a program file: header, count, contents, instruction by instruction, nothing after them, END last.
 unfoldable pub readProgram : Edition → List ℕ → Verdict Program
 readProgram e file = do
   sh ← readHeader e (e .programMark) file

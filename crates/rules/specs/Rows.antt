@@ -60,7 +60,8 @@ values s vs (r ∷ t) = values s (vs ++ (rowValue s vs r ∷ [])) t
 unfoldable pub value : List Row → List Bool → ℕ → Bool
 value t s i = getD (values s [] t) i false
 
--- R28: what the rule does with an operation: it names a row that stands, or a row that must stand.
+-- R28 to R30: what the rule does with an operation. have: the result is this row already. make: this row is looked for, and
+-- appended if there is none.
 pub data Plan : Type 0 where
   have : ℕ → Plan
   make : Row → Plan
@@ -82,7 +83,7 @@ abbrev pub neutral : Bool → ℕ
 neutral true = 1
 neutral false = 0
 
--- R29: AND or OR of the rows a and b, which are p and q.
+-- R29: AND or OR of the rows a and b. They are p and q, which today's rule does not look at.
 unfoldable pub planBin : Bool → ℕ → Row → ℕ → Row → Plan
 planBin o a p b q =
     cond (eqb a (absorbing o)) (have a)

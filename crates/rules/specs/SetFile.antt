@@ -38,7 +38,7 @@ headAt e c = headerEnd e + 2 * c
 abbrev pub rowPlace : Edition → Shape → ℕ → ℕ
 rowPlace e sh j = headAt e (cells sh) + 5 * j
 
--- R42: the row with a kind and two operands; what is no operation row is read as row 0, which no file may hold.
+-- R42: the row with a kind and two operands; anything else becomes the constant row 0, which `fits` refuses.
 unfoldable pub rowOf : ℕ → ℕ → ℕ → Row
 rowOf k a b = cond (eqb k 1 && eqb b 0) (inv a) (cond (eqb k 2) (bin true a b) (cond (eqb k 3) (bin false a b) (leaf 0)))
 
@@ -64,7 +64,7 @@ abbrev pub makes : Plan → Row → Bool
 makes (have i) r = false
 makes (make q) r = same q r
 
--- R43: whether row k is one that the rule could append there: operands earlier, nothing folds, no equal row earlier.
+-- R43: whether the rule could have appended row k there: operands earlier, nothing folds, no equal row before it.
 unfoldable pub fits : List Row → ℕ → Bool
 fits t k = allBelow k (operands (rowAt t k)) && (makes (plan t (rowAt t k)) (rowAt t k) && eqb (find t (rowAt t k)) k)
 

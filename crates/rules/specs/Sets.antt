@@ -26,7 +26,7 @@ operands (leaf i) = []
 operands (inv a) = a ∷ []
 operands (bin o a b) = a ∷ b ∷ []
 
--- R33: the numbers in x, what the rows below k among them name, what those name, and so on.
+-- R33: x, and all that its rows below k reach; from the highest row down, since rows name only earlier ones.
 unfoldable pub needs : List Row → ℕ → List ℕ → List ℕ
 needs t zero x = x
 needs t (suc k) x = needs t k (cond (elem k x) (operands (rowAt t k) ++ x) x)
@@ -46,14 +46,14 @@ carryOne put x m (leaf i) = record { tab = m .tab; row = getD (0 ∷ 1 ∷ x) i 
 carryOne put x m (inv a) = put (m .tab) (inv (getD (m .new) a 0))
 carryOne put x m (bin o a b) = put (m .tab) (bin o (getD (m .new) a 0) (getD (m .new) b 0))
 
--- R34: carries a row over if it is reached; one that is not gets no place.
+-- R34: carries a row over if it is reached; one that is not gets a filler 0 that nothing uses.
 abbrev pub carryRow : (List Row → Row → Added) → List ℕ → Carried → Row → Bool → Carried
 carryRow put x m r false = record { tab = m .tab; new = m .new ++ (0 ∷ []) }
 carryRow put x m r true =
     let a = carryOne put x m r in
     record { tab = a .tab; new = m .new ++ (a .row ∷ []) }
 
--- R34: carries the first k rows of u to t by `put`, those that y reaches, in rising number, with cell c replaced by x's head c.
+-- R34: carries those of the first k rows of u that y reaches to t, lowest number first, by `put`.
 unfoldable pub carry : (List Row → Row → Added) → List Row → List ℕ → List Row → List ℕ → ℕ → Carried
 carry put t x u y zero = record { tab = t; new = [] }
 carry put t x u y (suc k) = carryRow put x (carry put t x u y k) (rowAt u k) (reaches u y k)
@@ -74,7 +74,7 @@ append t r = record { tab = t ++ (r ∷ []); row = length t }
 unfoldable pub squeeze : ℕ → List Row → List ℕ → Heads
 squeeze C t x = moved (carry append (base C) (unchanging C) t x (length t)) x
 
--- R31: the heads that adding gives for a list, one after another, in one table.
+-- R35, R37: the heads that `put` gives for a list, one after another, in one table.
 unfoldable pub each : {A : Type 0} → (List Row → A → Added) → List Row → List A → Heads
 each put t [] = record { tab = t; heads = [] }
 each put t (x ∷ xs) =
@@ -82,7 +82,7 @@ each put t (x ∷ xs) =
     let rest = each put (a .tab) xs in
     record { tab = rest .tab; heads = a .row ∷ rest .heads }
 
--- R35: x if row f is 1, else y: NOT f, AND f x, AND (NOT f) y, and OR of both.
+-- R35: four operations that give x if row f is 1, else y.
 unfoldable pub fourRows : List Row → ℕ → ℕ → ℕ → Added
 fourRows t f x y =
     let n = add t (inv f) in

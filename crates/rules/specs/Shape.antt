@@ -15,7 +15,7 @@ pub record Shape : Type 0 where
   pub outputs : ℕ
   pub memory : ℕ
 
--- R2: the variables; the flag's cell comes after them, then the stack from e1 on.
+-- R2: how many variables there are, V; the flag's cell, which comes after them; how many cells there are, C.
 abbrev pub vars : Shape → ℕ
 vars sh = sh .inputs + sh .outputs + sh .memory
 
@@ -25,7 +25,7 @@ flag sh = vars sh
 abbrev pub cells : Shape → ℕ
 cells sh = vars sh + 1 + sh .depth
 
--- R1, R46: the depth is 2 to 16, and the variables are 1 to the edition's most.
+-- R1, R46, R58: the depth is 2 to 16, and the variables are 1 to the edition's most.
 abbrev pub checkShape : Edition → Shape → Verdict (Unit {0})
 checkShape e sh = do
   _ ← refuseIf (not (leb 2 (sh .depth) && leb (sh .depth) 16)) 3 1
@@ -42,7 +42,7 @@ shapeAt e file =
       memory = numberAt w file (2 + w + w);
     }
 
--- R7, R46: reads a header that begins with the mark. Refuses a short file, another mark, a bad shape.
+-- R7, R48, R49: reads a header that begins with the mark. Refuses a short file, another mark, a bad shape.
 unfoldable pub readHeader : Edition → ℕ → List ℕ → Verdict Shape
 readHeader e mark file = do
   _ ← refuseIf (ltb (length file) (headerEnd e)) 1 (length file)
