@@ -1,0 +1,45 @@
+use Rattle.base.specs.Words.{number-two}
+use native.Mathlib.Omega.{arith}
+use borrow.Author.Needs.{needs}
+use Rattle.base.proofs.bytes.word.Statement.{statement}
+use Rattle.base.proofs.bytes.word.Tie as tie
+use Rattle.base.proofs.bytes.word.Reads as reads
+use Rattle.base.proofs.bytes.word.Lts as lts
+use Rattle.base.proofs.bytes.wide.Reads as wide-reads
+
+shared-slice-read-wide : tie.Need-shared-slice-read-wide
+shared-slice-read-wide c = search needs
+
+wide-requires : tie.Need-wide-requires
+wide-requires c κs = search needs
+
+add-wide : tie.Need-add-wide
+add-wide c = search needs
+
+shared-slice-read-wide-2 : tie.Need-shared-slice-read-wide-2
+shared-slice-read-wide-2 c = search needs
+
+wide-requires-2 : tie.Need-wide-requires-2
+wide-requires-2 c κs = search needs
+
+mul-result : tie.Need-mul-result
+mul-result c = search needs
+
+add-result : tie.Need-add-result
+add-result c = search needs
+
+returns : tie.Need-returns
+returns c = (let s = c .before .before .before .before .before .args in (omega (arith, number-two (s .file .now) (s .at), c .before .before .wide .ensures .0, c .wide2 .ensures .0), omega arith))
+
+pub word-spec : {M : Type 1} → statement M
+word-spec =
+    tie.close
+    (tie.spec
+    shared-slice-read-wide
+    wide-requires
+    add-wide
+    shared-slice-read-wide-2
+    wide-requires-2
+    mul-result
+    add-result
+    returns)
