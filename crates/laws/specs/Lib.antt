@@ -5,6 +5,7 @@ pub mod Canonical
 pub mod Bytes
 pub mod Shape
 pub mod ProgramFile
+pub mod Decode
 pub mod Machine
 pub mod Rows
 pub mod Grow

@@ -16,7 +16,7 @@ use Rattle.rules.specs.Shape.{Shape, vars, checkShape, readHeader}
 use Rattle.rules.specs.Expr.{Exp, Read, Announced, leaf, one, two, bad, announced, readOperands, readExpr}
 use Rattle.rules.specs.Instr.{Instr, END}
 use Rattle.rules.specs.ProgramFile.{Program, Form, alone, withExpr, withVar, withLabel, unknown, codes, formOf, isEnd}
-use Rattle.rules.specs.ProgramFile.{entryAt, readBody, readInstr, readInstrs, readProgram}
+use Rattle.rules.specs.ProgramFile.{entryAt, bodyAt, readBody, readInstr, readInstrs, readProgram}
 use Rattle.laws.specs.Verdict.{Grants, grants, refuses, grants-of, grants-self, grants-bind, grants-check, grants-within}
 use Rattle.laws.specs.Shape.{shape-limits, header-granted}
 use Rattle.laws.specs.Canonical.{Over, Names, Fine, WellFormed}
@@ -130,7 +130,7 @@ instr-placed : (e : Edition) (file : List ℕ) (sh : Shape) (n i p : ℕ)
     → Grants (λ r. Placed (vars sh) n i (r .got)) (readInstr e file sh n i p)
 unfolding readInstr
 instr-placed e file sh n i p =
-    grants-check (not (eqb (entryAt e n + numberAt 2 file (entryAt e i)) p)) _ _ _ λ _.
+    grants-check (not (eqb (bodyAt e file n i) p)) _ _ _ λ _.
     grants-check (leb (length file) p) _ _ _ λ _.
     body-placed e file sh n i p (formOf codes (getD file p 0)) (form-good (codes-good (vars sh)) (getD file p 0))
 

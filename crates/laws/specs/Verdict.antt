@@ -66,6 +66,11 @@ pub grants-self : {A : Type 0} (m : Verdict A) → Grants (λ a. m ≡ granted a
 grants-self (granted a) = grants refl
 grants-self (refused n p) = refuses
 
+-- A property that follows from another.
+pub grants-map : {A : Type 0} {Q R : A → Type 0} {m : Verdict A} → Grants Q m → ((a : A) → Q a → R a) → Grants R m
+grants-map (grants {a = a} q) h = grants (h a q)
+grants-map refuses h = refuses
+
 -- A chain hands back what its rest does, on whatever its first part hands back.
 pub grants-bind : {A B : Type 0} {Q : A → Type 0} {R : B → Type 0} {m : Verdict A} {g : A → Verdict B} → Grants Q m
     → ((a : A) → Q a → Grants R (g a)) → Grants R (m >>= g)

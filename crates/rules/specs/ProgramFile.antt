@@ -66,10 +66,14 @@ readBody e file sh n i p unknown = refused 5 p
 abbrev pub entryAt : Edition → ℕ → ℕ
 entryAt e i = headerEnd e + 2 * i
 
+-- R9: where the body of instruction i of n stands, by its entry.
+abbrev pub bodyAt : Edition → List ℕ → ℕ → ℕ → ℕ
+bodyAt e file n i = entryAt e n + numberAt 2 file (entryAt e i)
+
 -- R9, R48: the instruction i of n whose body must stand at p: its entry, its code, its operand.
 unfoldable pub readInstr : Edition → List ℕ → Shape → ℕ → ℕ → ℕ → Verdict (Read Instr)
 readInstr e file sh n i p = do
-  _ ← refuseIf (not (eqb (entryAt e n + numberAt 2 file (entryAt e i)) p)) 4 (entryAt e i)
+  _ ← refuseIf (not (eqb (bodyAt e file n i) p)) 4 (entryAt e i)
   _ ← refuseIf (leb (length file) p) 1 (length file)
   readBody e file sh n i p (formOf codes (getD file p 0))
 
@@ -99,7 +103,7 @@ readProgram e file = do
   _ ← refuseIf (ltb (length file) (entryAt e n)) 1 (length file)
   xs ← readInstrs e file sh n n (entryAt e n)
   _ ← refuseIf (ltb (xs .next) (length file)) 4 (xs .next)
-  _ ← refuseIf (not (isEnd (getD (xs .got) (n - 1) END))) 9 (entryAt e n + numberAt 2 file (entryAt e (n - 1)))
+  _ ← refuseIf (not (isEnd (getD (xs .got) (n - 1) END))) 9 (bodyAt e file n (n - 1))
   granted (record { shape = sh; instrs = xs .got })
 
 -- R10: the bytes of an instruction's body.
