@@ -1,0 +1,2 @@
+// Scans a program step by step.
+pub mod eval;
