@@ -1,2 +1,4 @@
 pub mod Value
 pub mod ValueLaws
+pub mod Run
+pub mod RunLaws

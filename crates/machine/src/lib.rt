@@ -1,2 +1,3 @@
 // Scans a program step by step.
 pub mod eval;
+pub mod run;
