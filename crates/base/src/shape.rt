@@ -2,7 +2,7 @@
 use crate::kinds::Cell;
 ghost use mathlib.Core.Path.{_≡_};
 ghost use Prim.Native.Nat.{_<_};
-ghost use Rattle.rules.specs.Shape.{vars, cells};
+ghost use Rattle.rules.specs.Shape.{vars, flag, cells};
 ghost use Rattle.base.specs.Answers.{shapeOf};
 
 // R1: a stack depth and how many inputs, outputs and memory bits.
@@ -19,6 +19,14 @@ impl Shape {
         ensures { λ r. ⌜ r ≡ vars (shapeOf self) ⌝ }
     {
         self.inputs as usize + self.outputs as usize + self.memory as usize
+    }
+
+    // R2: the flag's cell.
+    pub fn flag(self) -> Cell
+        requires { ⌜ vars (shapeOf self) < 65536 ⌝ }
+        ensures { λ r. ⌜ r .0 ≡ flag (shapeOf self) ⌝ }
+    {
+        Cell(self.vars() as u16)
     }
 
     // R2: how many cells there are, C.

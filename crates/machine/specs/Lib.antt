@@ -1,3 +1,5 @@
+pub mod Perform
+pub mod PerformLaws
 pub mod Value
 pub mod ValueLaws
 pub mod Run

@@ -5,7 +5,6 @@ use mathlib.Core.List.{List, [], _∷_}
 use lib.ListN.{length, getD}
 use Rattle.rules.specs.Verdict.{Verdict, granted, refused}
 use Rattle.rules.specs.Edition.{old}
-use Rattle.rules.specs.Shape.{cells}
 use Rattle.rules.specs.ProgramFile.{Program, readProgram}
 use Rattle.rules.specs.Machine.{due, back, step, scanFrom}
 use Rattle.base.specs.declared.shape.Shape.{Shape}
@@ -14,7 +13,7 @@ use Rattle.machine.specs.declared.run.Move.{Move}
 use Rattle.machine.specs.declared.run.Move.the-variants.{On, Call, End}
 use Rattle.machine.specs.declared.run.Ran.{Ran}
 use Rattle.machine.specs.declared.run.Ran.the-variants.{Back, Spent}
-use Rattle.machine.specs.Value.{bits}
+use Rattle.storage.specs.Cells.{bitsOf, Storage}
 
 -- The program of an accepted file.
 abbrev pub grantedProgram : Verdict Program → Program
@@ -24,11 +23,6 @@ grantedProgram (refused n p) = record { shape = record { depth = 0; inputs = 0; 
 unfoldable pub programIn : List ℕ → Program
 programIn file = grantedProgram (readProgram old file)
 
--- A storage of a shape with so many cells.
-pub record Stored (C : ℕ) (s : List ℕ) : Type 0 where
-  pub size : length s ≡ C
-  pub holds : (c : ℕ) → getD s c 0 ≤ 1
-
 -- The file is accepted, of the shape and with n instructions, of which i is one; the storage fits.
 pub record Runnable (file : List ℕ) (sh : Shape) (n : ℕ) (s : List ℕ) (i : ℕ) : Type 0 where
   pub accepted : readProgram old file ≡ granted (programIn file)
@@ -36,25 +30,25 @@ pub record Runnable (file : List ℕ) (sh : Shape) (n : ℕ) (s : List ℕ) (i :
   pub count : n ≡ length (programIn file .instrs)
   pub most : n ≤ 512
   pub low : i < n
-  pub stored : Stored (cells (shapeOf sh)) s
+  pub stored : Storage (programIn file .shape) s
 
 -- R22, R23: where one step from instruction i leads, whatever the return list.
 abbrev pub Leads : Program → List ℕ → ℕ → Move → List ℕ → Type 0
-Leads P s i (On j) s′ = (i < j .0) × (j .0 < length (P .instrs)) × ((q : List ℕ) → step P (due i (bits s) q) ≡ due (j .0) (bits s′) q)
+Leads P s i (On j) s′ = (i < j .0) × (j .0 < length (P .instrs)) × ((q : List ℕ) → step P (due i (bitsOf s) q) ≡ due (j .0) (bitsOf s′) q)
 Leads P s i (Call l) s′ =
-    (i < l .0) × (l .0 < length (P .instrs)) × ((q : List ℕ) → step P (due i (bits s) q) ≡ due (l .0) (bits s′) (suc i ∷ q))
-Leads P s i End s′ = (q : List ℕ) → step P (due i (bits s) q) ≡ back (bits s′) q
+    (i < l .0) × (l .0 < length (P .instrs)) × ((q : List ℕ) → step P (due i (bitsOf s) q) ≡ due (l .0) (bitsOf s′) (suc i ∷ q))
+Leads P s i End s′ = (q : List ℕ) → step P (due i (bitsOf s) q) ≡ back (bitsOf s′) q
 
 pub record Obeys (file s : List ℕ) (i : ℕ) (m : Move) (s′ : List ℕ) : Type 0 where
   pub leads : Leads (programIn file) s i m s′
-  pub stored : Stored (length s) s′
+  pub stored : Storage (programIn file .shape) s′
 
 -- R25: what a scan does from instruction i on with so much budget left, whatever the return list and the steps before.
 abbrev pub Comes : Program → List ℕ → ℕ → ℕ → Ran → List ℕ → Type 0
 Comes P s i left (Back m) s′ = (m ≤ left)
-    × ((n : ℕ) (q : List ℕ) → scanFrom P left n (due i (bits s) q) ≡ scanFrom P m (n + (left - m)) (back (bits s′) q))
-Comes P s i left (Spent j) s′ = (n : ℕ) (q : List ℕ) → scanFrom P left n (due i (bits s) q) ≡ refused 11 (j .0)
+    × ((n : ℕ) (q : List ℕ) → scanFrom P left n (due i (bitsOf s) q) ≡ scanFrom P m (n + (left - m)) (back (bitsOf s′) q))
+Comes P s i left (Spent j) s′ = (n : ℕ) (q : List ℕ) → scanFrom P left n (due i (bitsOf s) q) ≡ refused 11 (j .0)
 
 pub record Ends (file s : List ℕ) (i left : ℕ) (r : Ran) (s′ : List ℕ) : Type 0 where
   pub comes : Comes (programIn file) s i left r s′
-  pub stored : Stored (length s) s′
+  pub stored : Storage (programIn file .shape) s′

@@ -14,8 +14,8 @@ use Rattle.base.specs.declared.kinds.Instr.{Instr}
 use Rattle.machine.specs.declared.run.Move.the-variants.{On, Call, End}
 use Rattle.machine.specs.declared.run.Ran.{Ran}
 use Rattle.machine.specs.declared.run.Ran.the-variants.{Back, Spent}
-use Rattle.machine.specs.Value.{bits}
-use Rattle.machine.specs.Run.{programIn, Stored, Runnable, Leads, Obeys, Comes, Ends}
+use Rattle.storage.specs.Cells.{bitsOf, Storage}
+use Rattle.machine.specs.Run.{programIn, Runnable, Leads, Obeys, Comes, Ends}
 
 -- With budget left, a scan takes one step.
 one-step : (P : Program) (left n i : ℕ) (b : List Bool) (q : List ℕ) → (left ≡ 0 → ⊥)
@@ -34,57 +34,54 @@ unfolding scanFrom
 comes-spent P s i n q = refl
 
 comes-end : (P : Program) (s : List ℕ) (i left : ℕ) (s′ : List ℕ) → (left ≡ 0 → ⊥) → Leads P s i End s′ → Comes P s i left (Back (left - 1)) s′
-comes-end P s i left s′ h g = (omega arith, λ n q. one-step P left n i (bits s) q h ∙ ap (scanFrom P (left - 1) (suc n)) (g q)
-    ∙ counted P (left - 1) (suc n) (n + (left - (left - 1))) (back (bits s′) q) (omega arith))
+comes-end P s i left s′ h g = (omega arith, λ n q. one-step P left n i (bitsOf s) q h ∙ ap (scanFrom P (left - 1) (suc n)) (g q)
+    ∙ counted P (left - 1) (suc n) (n + (left - (left - 1))) (back (bitsOf s′) q) (omega arith))
 
 comes-on : (P : Program) (s s₁ s₂ : List ℕ) (i left : ℕ) (j : Instr) (r : Ran) → (left ≡ 0 → ⊥) → Leads P s i (On j) s₁
     → Comes P s₁ (j .0) (left - 1) r s₂ → Comes P s i left r s₂
-comes-on P s s₁ s₂ i left j (Back m) h g c = (omega (arith, c .0), λ n q. one-step P left n i (bits s) q h
-    ∙ ap (scanFrom P (left - 1) (suc n)) (g .2 q) ∙ c .1 (suc n) q ∙ counted P m (suc n + (left - 1 - m)) (n + (left - m)) (back (bits s₂) q) (omega (arith, c .0)))
-comes-on P s s₁ s₂ i left j (Spent k) h g c = λ n q. one-step P left n i (bits s) q h ∙ ap (scanFrom P (left - 1) (suc n)) (g .2 q) ∙ c (suc n) q
+comes-on P s s₁ s₂ i left j (Back m) h g c = (omega (arith, c .0), λ n q. one-step P left n i (bitsOf s) q h
+    ∙ ap (scanFrom P (left - 1) (suc n)) (g .2 q) ∙ c .1 (suc n) q ∙ counted P m (suc n + (left - 1 - m)) (n + (left - m)) (back (bitsOf s₂) q) (omega (arith, c .0)))
+comes-on P s s₁ s₂ i left j (Spent k) h g c = λ n q. one-step P left n i (bitsOf s) q h ∙ ap (scanFrom P (left - 1) (suc n)) (g .2 q) ∙ c (suc n) q
 
 comes-call : (P : Program) (s s₁ s₂ s₃ : List ℕ) (i left m : ℕ) (l : Instr) (r : Ran) → (left ≡ 0 → ⊥) → Leads P s i (Call l) s₁
     → Comes P s₁ (l .0) (left - 1) (Back m) s₂ → Comes P s₂ (suc i) m r s₃ → Comes P s i left r s₃
-comes-call P s s₁ s₂ s₃ i left m l (Back k) h g c d = (omega (arith, c .0, d .0), λ n q. one-step P left n i (bits s) q h
+comes-call P s s₁ s₂ s₃ i left m l (Back k) h g c d = (omega (arith, c .0, d .0), λ n q. one-step P left n i (bitsOf s) q h
     ∙ ap (scanFrom P (left - 1) (suc n)) (g .2 q) ∙ c .1 (suc n) (suc i ∷ q) ∙ d .1 (suc n + (left - 1 - m)) q
-    ∙ counted P k (suc n + (left - 1 - m) + (m - k)) (n + (left - k)) (back (bits s₃) q) (omega (arith, c .0, d .0)))
-comes-call P s s₁ s₂ s₃ i left m l (Spent k) h g c d = λ n q. one-step P left n i (bits s) q h
+    ∙ counted P k (suc n + (left - 1 - m) + (m - k)) (n + (left - k)) (back (bitsOf s₃) q) (omega (arith, c .0, d .0)))
+comes-call P s s₁ s₂ s₃ i left m l (Spent k) h g c d = λ n q. one-step P left n i (bitsOf s) q h
     ∙ ap (scanFrom P (left - 1) (suc n)) (g .2 q) ∙ c .1 (suc n) (suc i ∷ q) ∙ d (suc n + (left - 1 - m)) q
 
 comes-lost : (P : Program) (s s₁ s₂ : List ℕ) (i left : ℕ) (l j : Instr) → (left ≡ 0 → ⊥) → Leads P s i (Call l) s₁
     → Comes P s₁ (l .0) (left - 1) (Spent j) s₂ → Comes P s i left (Spent j) s₂
-comes-lost P s s₁ s₂ i left l j h g c = λ n q. one-step P left n i (bits s) q h ∙ ap (scanFrom P (left - 1) (suc n)) (g .2 q) ∙ c (suc n) (suc i ∷ q)
+comes-lost P s s₁ s₂ i left l j h g c = λ n q. one-step P left n i (bitsOf s) q h ∙ ap (scanFrom P (left - 1) (suc n)) (g .2 q) ∙ c (suc n) (suc i ∷ q)
 
 -- A scan whose whole run came back was granted, with as many steps as were spent.
 pub scan-back : (P : Program) (s s′ : List ℕ) (budget m : ℕ) → Comes P s 0 budget (Back m) s′
-    → scanProgram P budget (bits s) ≡ granted (record { steps = budget - m; storage = bits s′ })
+    → scanProgram P budget (bitsOf s) ≡ granted (record { steps = budget - m; storage = bitsOf s′ })
 unfolding scanFrom
 scan-back P s s′ budget m c =
-    c .1 0 [] ∙ counted P m (0 + (budget - m)) (budget - m) (stopped (bits s′)) (omega arith) ∙ last m (budget - m)
+    c .1 0 [] ∙ counted P m (0 + (budget - m)) (budget - m) (stopped (bitsOf s′)) (omega arith) ∙ last m (budget - m)
   where
-    last : (m k : ℕ) → scanFrom P m k (stopped (bits s′)) ≡ granted (record { steps = k; storage = bits s′ })
+    last : (m k : ℕ) → scanFrom P m k (stopped (bitsOf s′)) ≡ granted (record { steps = k; storage = bitsOf s′ })
     last zero k = refl
     last (suc m) k = refl
 
 -- ---- the same with the storage's form
 
-stored-then : (s s₁ s₂ : List ℕ) → Stored (length s) s₁ → Stored (length s₁) s₂ → Stored (length s) s₂
-stored-then s s₁ s₂ a b = record { size = b .size ∙ a .size; holds = b .holds }
-
 module _ (file : List ℕ) (sh : Shape) (n : ℕ) (s : List ℕ) (i : ℕ) (r : Runnable file sh n s i) where
   -- A run may go on at a later instruction.
-  pub runnable-at : (s₁ : List ℕ) → Stored (length s) s₁ → (j : ℕ) → j < n → Runnable file sh n s₁ j
+  pub runnable-at : (s₁ : List ℕ) → Storage (programIn file .shape) s₁ → (j : ℕ) → j < n → Runnable file sh n s₁ j
   runnable-at s₁ a j h = record {
     accepted = r .accepted;
     shaped = r .shaped;
     count = r .count;
     most = r .most;
     low = h;
-    stored = record { size = a .size ∙ r .stored .size; holds = a .holds };
+    stored = a;
   }
 
   pub ends-spent : (k : Instr) → k .0 ≡ i → (left : ℕ) → left ≡ 0 → Ends file s i left (Spent k) s
-  ends-spent k e left z = rw (← e, z) (record { comes = comes-spent (programIn file) s k; stored = record { size = refl; holds = r .stored .holds } })
+  ends-spent k e left z = rw (← e, z) (record { comes = comes-spent (programIn file) s k; stored = r .stored })
 
   module _ (left : ℕ) (h : left ≡ 0 → ⊥) (s₁ : List ℕ) where
     pub ends-end : Obeys file s i End s₁ → Ends file s i left (Back (left - 1)) s₁
@@ -93,19 +90,19 @@ module _ (file : List ℕ) (sh : Shape) (n : ℕ) (s : List ℕ) (i : ℕ) (r : 
     pub ends-on : (j : Instr) (s₂ : List ℕ) (t : Ran) → Obeys file s i (On j) s₁ → Ends file s₁ (j .0) (left - 1) t s₂ → Ends file s i left t s₂
     ends-on j s₂ t o c = record {
       comes = comes-on (programIn file) s s₁ s₂ i left j t h (o .leads) (c .comes);
-      stored = stored-then s s₁ s₂ (o .stored) (c .stored);
+      stored = c .stored;
     }
 
     pub ends-call : (l : Instr) (m : ℕ) (s₂ s₃ : List ℕ) (t : Ran) → Obeys file s i (Call l) s₁ → Ends file s₁ (l .0) (left - 1) (Back m) s₂
         → Ends file s₂ (i + 1) m t s₃ → Ends file s i left t s₃
     ends-call l m s₂ s₃ t o c d = record {
       comes = comes-call (programIn file) s s₁ s₂ s₃ i left m l t h (o .leads) (c .comes) (rw add-one at (d .comes));
-      stored = stored-then s s₁ s₃ (o .stored) (stored-then s₁ s₂ s₃ (c .stored) (d .stored));
+      stored = d .stored;
     }
 
     pub ends-lost : (l j : Instr) (s₂ : List ℕ) → Obeys file s i (Call l) s₁ → Ends file s₁ (l .0) (left - 1) (Spent j) s₂
         → Ends file s i left (Spent j) s₂
     ends-lost l j s₂ o c = record {
       comes = comes-lost (programIn file) s s₁ s₂ i left l j h (o .leads) (c .comes);
-      stored = stored-then s s₁ s₂ (o .stored) (c .stored);
+      stored = c .stored;
     }

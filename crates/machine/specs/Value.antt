@@ -8,11 +8,8 @@ use lib.Dec.{eqb}
 use Rattle.rules.specs.Verdict.{granted}
 use Rattle.rules.specs.Expr.{Exp, Read, eval, readExpr}
 use Rattle.rules.specs.Operations.{bit}
+use Rattle.storage.specs.Cells.{bitsOf, Bits}
 use Rattle.machine.specs.declared.eval.Valued.{Valued}
-
--- The bits of a storage.
-abbrev pub bits : List ℕ → List Bool
-bits s = map (eqb 1) s
 
 -- The expression x stands at p and ends by `stop`.
 pub record Reads (file : List ℕ) (v stop p : ℕ) (x : Read Exp) : Type 0 where
@@ -25,11 +22,11 @@ pub record Readable (file s : List ℕ) (v stop p : ℕ) : Type 0 where
   pub reads : Reads file v stop p what
   pub most : v ≤ 200
   pub enough : v ≤ length s
-  pub holds : (c : ℕ) → getD s c 0 ≤ 1
+  pub holds : Bits s
 
 -- The value of the expression at p, and the place after it.
 pub record Values (file s : List ℕ) (v stop p : ℕ) (r : Valued) : Type 0 where
-  pub value : (x : Read Exp) → Reads file v stop p x → r .bit ≡ bit (eval (bits s) (x .got))
+  pub value : (x : Read Exp) → Reads file v stop p x → r .bit ≡ bit (eval (bitsOf s) (x .got))
   pub place : (x : Read Exp) → Reads file v stop p x → r .next ≡ x .next
   pub small : r .bit ≤ 1
 

@@ -14,8 +14,10 @@ use Rattle.rules.specs.Verdict.{Verdict, granted, refused, _>>=_}
 use Rattle.rules.specs.Expr.{Exp, con, cell, neg, bin, op, eval, Read, Announced, leaf, one, two, bad, announced, readOperands, readExpr}
 use Rattle.rules.specs.Operations.{bit}
 use Rattle.laws.specs.Verdict.{bind-granted, check-granted, Grants, grants, refuses, grants-of, grants-self, grants-bind, grants-check}
+use Rattle.storage.specs.Cells.{bitsOf}
+use Rattle.storage.specs.Stores.{bit-eqb, bit-not, cell-byte}
 use Rattle.machine.specs.declared.eval.Valued.{Valued}
-use Rattle.machine.specs.Value.{bits, Reads, Readable, Values, joined}
+use Rattle.machine.specs.Value.{Reads, Readable, Values, joined}
 
 -- What stands at p, by what its first byte announces.
 abbrev Parts : List ℕ → ℕ → ℕ → ℕ → Read Exp → Announced → Type 0
@@ -130,15 +132,6 @@ bit-small : (b : Bool) → bit b ≤ 1
 bit-small true = omega arith
 bit-small false = omega arith
 
-bit-back : (n : ℕ) → n ≤ 1 → bit (eqb 1 n) ≡ n
-bit-back zero h = refl
-bit-back (suc zero) h = refl
-bit-back (suc (suc n)) h = absurd (omega arith)
-
-bit-not : (b : Bool) → bit (not b) ≡ 1 - bit b
-bit-not true = refl
-bit-not false = refl
-
 bit-join : (b : ℕ) (x y : Bool) → joined b (bit x) (bit y) ≡ bit (op (eqb b 253) x y)
 bit-join b x y = go (eqb b 253) x y
   where
@@ -148,12 +141,9 @@ bit-join b x y = go (eqb b 253) x y
     go false true y = refl
     go false false y = refl
 
-getD-bits : (s : List ℕ) (c : ℕ) → getD (bits s) c false ≡ eqb 1 (getD s c 0)
-getD-bits s c = List·getD-map (eqb 1) s c 0
-
 -- The value of what was read, as a byte.
 abbrev worth : List ℕ → Read Exp → ℕ
-worth s x = bit (eval (bits s) (x .got))
+worth s x = bit (eval (bitsOf s) (x .got))
 
 module _ (file s : List ℕ) (v stop p : ℕ) (r : Readable file s v stop p) where
   abbrev b : ℕ
@@ -183,7 +173,7 @@ module _ (file s : List ℕ) (v stop p : ℕ) (r : Readable file s v stop p) whe
   value-variable h = record {
     value = λ x q.
         let e : x ≡ record { got = cell b; next = suc p } = rw (announces-variable v b (read-variable h)) at (open′ x q .parts) in
-        sym (bit-back (getD s b 0) (r .holds b)) ∙ ap bit (sym (getD-bits s b)) ∙ ap (worth s) (sym e);
+        sym (cell-byte s (r .holds) b) ∙ ap (worth s) (sym e);
     place = λ x q.
         let e : x ≡ record { got = cell b; next = suc p } = rw (announces-variable v b (read-variable h)) at (open′ x q .parts) in
         add-one p ∙ ap (λ (y : Read Exp). y .next) (sym e);
@@ -196,7 +186,7 @@ module _ (file s : List ℕ) (v stop p : ℕ) (r : Readable file s v stop p) whe
       let is : (x : Read Exp) → Reads file v stop p x → x ≡ record { got = con (eqb 1 (b - 250)); next = suc p }
           = λ x q. rw (announces-constant v b (r .most) h g) at (open′ x q .parts) in
       record {
-        value = λ x q. sym (bit-back (b - 250) (omega arith)) ∙ ap (worth s) (sym (is x q));
+        value = λ x q. sym (bit-eqb (b - 250) (omega arith)) ∙ ap (worth s) (sym (is x q));
         place = λ x q. add-one p ∙ ap (λ (y : Read Exp). y .next) (sym (is x q));
         small = omega arith;
       }
@@ -226,7 +216,7 @@ module _ (file s : List ℕ) (v stop p : ℕ) (r : Readable file s v stop p) whe
   value-not h y w = record {
     value = λ x q.
         let t = not-parts h x q in
-        ap (λ n. 1 - n) ((rw add-one at w) .value (t .0) (t .1)) ∙ sym (bit-not (eval (bits s) (t .0 .got))) ∙ ap (worth s) (sym (t .2));
+        ap (λ n. 1 - n) ((rw add-one at w) .value (t .0) (t .1)) ∙ sym (bit-not (eval (bitsOf s) (t .0 .got))) ∙ ap (worth s) (sym (t .2));
     place = λ x q.
         let t = not-parts h x q in
         cc ((rw add-one at w) .place (t .0) (t .1), t .2);
@@ -252,7 +242,7 @@ module _ (file s : List ℕ) (v stop p : ℕ) (r : Readable file s v stop p) whe
         value = λ x q.
             let t = two-parts h x q in
             ap₂ (joined b) ((rw add-one at w) .value (t .0) (t .2)) ((rw (first t) at u) .value (t .1) (t .3))
-            ∙ bit-join b (eval (bits s) (t .0 .got)) (eval (bits s) (t .1 .got)) ∙ ap (worth s) (sym (t .4));
+            ∙ bit-join b (eval (bitsOf s) (t .0 .got)) (eval (bitsOf s) (t .1 .got)) ∙ ap (worth s) (sym (t .4));
         place = λ x q.
             let t = two-parts h x q in
             (rw (first t) at u) .place (t .1) (t .3) ∙ ap (λ (k : Read Exp). k .next) (sym (t .4));

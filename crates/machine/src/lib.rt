@@ -1,3 +1,5 @@
 // Scans a program step by step.
+pub mod bits;
 pub mod eval;
+pub mod perform;
 pub mod run;

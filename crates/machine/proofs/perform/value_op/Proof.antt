@@ -1,0 +1,83 @@
+use Rattle.machine.specs.PerformLaws.{op-load, op-and, op-or, op-epush}
+use mathlib.Core.Path.{_∙_}
+use native.Mathlib.Omega.{arith}
+use borrow.Author.Needs.{needs}
+use Rattle.machine.proofs.perform.value_op.Statement.{statement}
+use Rattle.machine.proofs.perform.value_op.Tie as tie
+use Rattle.machine.proofs.perform.value_op.Reads as reads
+use Rattle.machine.proofs.perform.value_op.Lts as lts
+use Rattle.base.proofs.shape.Shape.flag.Reads as flag-reads
+use Rattle.machine.proofs.bits.both.Reads as both-reads
+use Rattle.machine.proofs.bits.either.Reads as either-reads
+use Rattle.storage.proofs.cell_at.Reads as cell-at-reads
+use Rattle.storage.proofs.push.Reads as push-reads
+use Rattle.storage.proofs.put_cell.Reads as put-cell-reads
+
+flag-requires : tie.Need-flag-requires
+flag-requires c κs = search needs
+
+push-requires : tie.Need-push-requires
+push-requires c κs = search needs
+
+same-length : tie.Need-same-length
+same-length c = search needs
+
+returns : tie.Need-returns
+returns c = (c .before .before .push .ensures) ∙ op-epush _ _ _ _ _ (c .before .before .before .before .if1 .taken) (c .before .before .before .before .before .flag .ensures)
+
+cell-at-requires : tie.Need-cell-at-requires
+cell-at-requires c κs = search needs
+
+put-cell-requires : tie.Need-put-cell-requires
+put-cell-requires c κs = search needs
+
+same-length-2 : tie.Need-same-length-2
+same-length-2 c = search needs
+
+returns-2 : tie.Need-returns-2
+returns-2 c = (c .before .before .put-cell .ensures) ∙ op-load _ _ _ _ _ (c .before .before .before .before .if2 .taken) (c .before .before .before .before .before .before .before .before .flag .ensures)
+
+both-requires : tie.Need-both-requires
+both-requires c κs = search needs
+
+put-cell-requires-2 : tie.Need-put-cell-requires-2
+put-cell-requires-2 c κs = search needs
+
+same-length-3 : tie.Need-same-length-3
+same-length-3 c = search needs
+
+returns-3 : tie.Need-returns-3
+returns-3 c = (c .before .before .put-cell2 .ensures) ∙ op-and _ _ _ _ _ _ _ (c .before .before .before .before .before .if3 .taken) (c .before .before .before .before .before .before .before .before .before .before .flag .ensures) (c .before .before .before .before .before .before .before .cell-at .ensures) (c .before .before .before .both .ensures)
+
+either-requires : tie.Need-either-requires
+either-requires c κs = search needs
+
+put-cell-requires-3 : tie.Need-put-cell-requires-3
+put-cell-requires-3 c κs = search needs
+
+same-length-4 : tie.Need-same-length-4
+same-length-4 c = search needs
+
+returns-4 : tie.Need-returns-4
+returns-4 c = (c .before .before .put-cell3 .ensures) ∙ op-or _ _ _ _ _ _ _ (omega (arith, c .before .before .before .before .before .before .before .before .before .if1 .left, c .before .before .before .before .before .before .if2 .left, c .before .before .before .before .before .if3 .left, c .before .before .before .before .before .before .before .before .before .before .before .before .pre .1)) (c .before .before .before .before .before .before .before .before .before .before .flag .ensures) (c .before .before .before .before .before .before .before .cell-at .ensures) (c .before .before .before .either .ensures)
+
+pub value-op-spec : {M : Type 1} → statement M
+value-op-spec =
+    tie.close
+    (tie.spec
+    flag-requires
+    push-requires
+    same-length
+    returns
+    cell-at-requires
+    put-cell-requires
+    same-length-2
+    returns-2
+    both-requires
+    put-cell-requires-2
+    same-length-3
+    returns-3
+    either-requires
+    put-cell-requires-3
+    same-length-4
+    returns-4)

@@ -1,0 +1,123 @@
+use Rattle.machine.specs.PerformLaws.{op-store, op-set, op-res, op-redge, op-fedge}
+use lib.ListN.{set}
+use mathlib.Core.Path.{ap, _∙_}
+use native.Mathlib.Omega.{arith}
+use borrow.Author.Needs.{needs}
+use Rattle.machine.proofs.perform.variable_op.Statement.{statement}
+use Rattle.machine.proofs.perform.variable_op.Tie as tie
+use Rattle.machine.proofs.perform.variable_op.Reads as reads
+use Rattle.machine.proofs.perform.variable_op.Lts as lts
+use Rattle.base.proofs.shape.Shape.flag.Reads as flag-reads
+use Rattle.machine.proofs.bits.both.Reads as both-reads
+use Rattle.machine.proofs.bits.either.Reads as either-reads
+use Rattle.storage.proofs.cell_at.Reads as cell-at-reads
+use Rattle.storage.proofs.put_cell.Reads as put-cell-reads
+
+flag-requires : tie.Need-flag-requires
+flag-requires c κs = search needs
+
+cell-at-requires : tie.Need-cell-at-requires
+cell-at-requires c κs = search needs
+
+cell-at-requires-2 : tie.Need-cell-at-requires-2
+cell-at-requires-2 c κs = search needs
+
+put-cell-requires : tie.Need-put-cell-requires
+put-cell-requires c κs = search needs
+
+same-length : tie.Need-same-length
+same-length c = search needs
+
+returns : tie.Need-returns
+returns c = (c .before .before .put-cell .ensures) ∙ op-store _ _ _ _ _ _ (c .before .before .before .before .if1 .taken) (c .before .before .before .before .before .before .before .before .before .flag .ensures) (c .before .before .before .before .before .before .before .cell-at .ensures)
+
+either-requires : tie.Need-either-requires
+either-requires c κs = search needs
+
+put-cell-requires-2 : tie.Need-put-cell-requires-2
+put-cell-requires-2 c κs = search needs
+
+same-length-2 : tie.Need-same-length-2
+same-length-2 c = search needs
+
+returns-2 : tie.Need-returns-2
+returns-2 c = (c .before .before .put-cell2 .ensures) ∙ op-set _ _ _ _ _ _ _ _ (c .before .before .before .before .before .if2 .taken) (c .before .before .before .before .before .before .before .before .before .before .before .flag .ensures) (c .before .before .before .before .before .before .before .before .before .cell-at .ensures) (c .before .before .before .before .before .before .before .cell-at2 .ensures) (c .before .before .before .either .ensures)
+
+sub-both : tie.Need-sub-both
+sub-both c = omega (arith, c .before .before .before .before .before .before .before .before .before .before .pre .0 .storage .bits (c .before .before .before .before .before .before .before .before .flag .result .0), (c .before .before .before .before .before .before .cell-at .ensures))
+
+both-requires : tie.Need-both-requires
+both-requires c κs = search needs
+
+put-cell-requires-3 : tie.Need-put-cell-requires-3
+put-cell-requires-3 c κs = search needs
+
+same-length-3 : tie.Need-same-length-3
+same-length-3 c = search needs
+
+returns-3 : tie.Need-returns-3
+returns-3 c = (c .before .before .put-cell3 .ensures) ∙ op-res _ _ _ _ _ _ _ _ (c .before .before .before .before .before .if3 .taken) (c .before .before .before .before .before .before .before .before .before .before .before .before .flag .ensures) (c .before .before .before .before .before .before .before .before .before .before .cell-at .ensures) (c .before .before .before .before .before .before .before .before .cell-at2 .ensures) (c .before .before .before .both .ensures)
+
+put-cell-requires-4 : tie.Need-put-cell-requires-4
+put-cell-requires-4 c κs = search needs
+
+sub-both-2 : tie.Need-sub-both-2
+sub-both-2 c = omega (arith, c .before .before .before .before .before .before .before .before .before .before .before .before .before .before .before .pre .0 .storage .bits (c .before .before .before .before .before .before .before .before .before .before .before .before .before .before .before .args .b .0), (c .before .before .before .before .before .before .before .before .before .cell-at2 .ensures))
+
+both-requires-2 : tie.Need-both-requires-2
+both-requires-2 c κs = search needs
+
+put-cell-requires-5 : tie.Need-put-cell-requires-5
+put-cell-requires-5 c κs = search needs
+
+same-length-4 : tie.Need-same-length-4
+same-length-4 c = search needs
+
+returns-4 : tie.Need-returns-4
+returns-4 c = (c .before .before .put-cell5 .ensures) ∙ ap (λ t. set t _ _) (c .before .before .before .before .before .before .before .before .put-cell4 .ensures) ∙ op-redge _ _ _ _ _ _ _ _ (c .before .before .before .before .before .if4 .taken) (c .before .before .before .before .before .before .before .before .before .before .before .before .before .before .before .before .before .flag .ensures) (c .before .before .before .before .before .before .before .before .before .before .before .before .before .before .before .cell-at .ensures) (c .before .before .before .before .before .before .before .before .before .before .before .before .before .cell-at2 .ensures) (c .before .before .before .both2 .ensures)
+
+sub-both-3 : tie.Need-sub-both-3
+sub-both-3 c = omega (arith, c .before .before .before .before .before .before .before .before .before .before .before .before .before .before .before .pre .0 .storage .bits (c .before .before .before .before .before .before .before .before .before .before .before .before .before .flag .result .0), (c .before .before .before .before .before .before .before .before .before .before .before .cell-at .ensures))
+
+both-requires-3 : tie.Need-both-requires-3
+both-requires-3 c κs = search needs
+
+put-cell-requires-6 : tie.Need-put-cell-requires-6
+put-cell-requires-6 c κs = search needs
+
+same-length-5 : tie.Need-same-length-5
+same-length-5 c = search needs
+
+returns-5 : tie.Need-returns-5
+returns-5 c = (c .before .before .put-cell6 .ensures) ∙ ap (λ t. set t _ _) (c .before .before .before .before .before .before .before .before .put-cell4 .ensures) ∙ op-fedge _ _ _ _ _ _ _ _ (omega (arith, c .before .before .before .before .before .before .before .before .before .before .before .before .if1 .left, c .before .before .before .before .before .before .before .before .before .before .before .if2 .left, c .before .before .before .before .before .before .before .before .before .before .if3 .left, c .before .before .before .before .before .if4 .left, c .before .before .before .before .before .before .before .before .before .before .before .before .before .before .before .before .before .before .before .pre .1)) (c .before .before .before .before .before .before .before .before .before .before .before .before .before .before .before .before .before .flag .ensures) (c .before .before .before .before .before .before .before .before .before .before .before .before .before .before .before .cell-at .ensures) (c .before .before .before .before .before .before .before .before .before .before .before .before .before .cell-at2 .ensures) (c .before .before .before .both3 .ensures)
+
+pub variable-op-spec : {M : Type 1} → statement M
+variable-op-spec =
+    tie.close
+    (tie.spec
+    flag-requires
+    cell-at-requires
+    cell-at-requires-2
+    put-cell-requires
+    same-length
+    returns
+    either-requires
+    put-cell-requires-2
+    same-length-2
+    returns-2
+    sub-both
+    both-requires
+    put-cell-requires-3
+    same-length-3
+    returns-3
+    put-cell-requires-4
+    sub-both-2
+    both-requires-2
+    put-cell-requires-5
+    same-length-4
+    returns-4
+    sub-both-3
+    both-requires-3
+    put-cell-requires-6
+    same-length-5
+    returns-5)

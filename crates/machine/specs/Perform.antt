@@ -1,0 +1,34 @@
+-- Which instruction a code is, and what performing it asks for.
+use Prim.Native.Nat.{ℕ, _+_, _-_, _≤_, min, max}
+use mathlib.Core.List.{List, [], _∷_}
+use lib.ListN.{getD, set}
+use Rattle.rules.specs.Shape as R
+use Rattle.rules.specs.Expr.{Exp}
+use Rattle.rules.specs.Instr.{Plain, INIT, NOT, TAND, TOR, PUSH, POP, DROP, DUP, FSWP, ESWP, LOAD, AND, OR, EPUSH, STORE, SET, RES, REDGE, FEDGE}
+use Rattle.base.specs.declared.shape.Shape.{Shape}
+use Rattle.base.specs.Answers.{shapeOf}
+use Rattle.storage.specs.Cells.{Storage, pushOn}
+
+-- A storage of a shape with room for the flag, the stack and few variables.
+pub record Fitting (sh : Shape) (s : List ℕ) : Type 0 where
+  pub storage : Storage (shapeOf sh) s
+  pub deep : 2 ≤ sh .depth
+  pub most : R.vars (shapeOf sh) ≤ 200
+
+-- R10: the instruction of a code below 10.
+abbrev pub aloneOf : ℕ → Plain
+aloneOf c = getD (INIT ∷ NOT ∷ TAND ∷ TOR ∷ PUSH ∷ POP ∷ DROP ∷ DUP ∷ FSWP ∷ ESWP ∷ []) c INIT
+
+-- R10: the instruction of a code from 16 on that takes an expression.
+abbrev pub onExpr : ℕ → Exp → Plain
+onExpr c x = getD (LOAD x ∷ AND x ∷ OR x ∷ EPUSH x ∷ []) (c - 16) INIT
+
+-- R17, R19: the bytes after it, where x is the value of the expression.
+abbrev pub onValue : R.Shape → List ℕ → ℕ → ℕ → List ℕ
+onValue sh s c x =
+    let f = R.flag sh in
+    getD (set s f x ∷ set s f (min (getD s f 0) x) ∷ set s f (max (getD s f 0) x) ∷ pushOn f x s ∷ []) (c - 16) s
+
+-- R10: the instruction of a code from 32 on that takes a variable.
+abbrev pub onVariable : ℕ → ℕ → Plain
+onVariable c b = getD (STORE b ∷ SET b ∷ RES b ∷ REDGE b ∷ FEDGE b ∷ []) (c - 32) INIT
