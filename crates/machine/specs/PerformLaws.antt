@@ -32,10 +32,10 @@ pub op-push : (sh : Shape) (s : List ℕ) (code f x : ℕ) → code ≡ 4 → f 
 unfolding stored
 op-push sh s code f x e0 e1 e2 = cc
 
-pub op-pop : (sh : Shape) (s : List ℕ) (code f y : ℕ) → code ≡ 5 → f ≡ flag sh → y ≡ getD s (f + 1) 0
-    → set (dropTop f s) f y ≡ stored sh s (aloneOf code)
+pub op-pop : (sh : Shape) (s t : List ℕ) (code f y : ℕ) → code ≡ 5 → f ≡ flag sh → y ≡ getD s (f + 1) 0 → t ≡ dropTop f s
+    → set t f y ≡ stored sh s (aloneOf code)
 unfolding stored
-op-pop sh s code f y e0 e1 e2 = cc
+op-pop sh s t code f y e0 e1 e2 e3 = cc
 
 pub op-drop : (sh : Shape) (s : List ℕ) (code f : ℕ) → code ≡ 6 → f ≡ flag sh
     → dropTop f s ≡ stored sh s (aloneOf code)
@@ -47,15 +47,15 @@ pub op-dup : (sh : Shape) (s : List ℕ) (code f y : ℕ) → code ≡ 7 → f �
 unfolding stored
 op-dup sh s code f y e0 e1 e2 = cc
 
-pub op-fswp : (sh : Shape) (s : List ℕ) (code f x y : ℕ) → code ≡ 8 → f ≡ flag sh → x ≡ getD s f 0 → y ≡ getD s (f + 1) 0
-    → set (set s (f + 1) x) f y ≡ stored sh s (aloneOf code)
+pub op-fswp : (sh : Shape) (s t : List ℕ) (code f x y : ℕ) → code ≡ 8 → f ≡ flag sh → x ≡ getD s f 0 → y ≡ getD s (f + 1) 0 → t ≡ set s (f + 1) x
+    → set t f y ≡ stored sh s (aloneOf code)
 unfolding stored
-op-fswp sh s code f x y e0 e1 e2 e3 = cc
+op-fswp sh s t code f x y e0 e1 e2 e3 e4 = cc
 
-pub op-eswp : (sh : Shape) (s : List ℕ) (code f y z : ℕ) → code ≡ 9 → f ≡ flag sh → y ≡ getD s (f + 1) 0 → z ≡ getD s (f + 2) 0
-    → set (set s (f + 2) y) (f + 1) z ≡ stored sh s (aloneOf code)
+pub op-eswp : (sh : Shape) (s t : List ℕ) (code f y z : ℕ) → code ≡ 9 → f ≡ flag sh → y ≡ getD s (f + 1) 0 → z ≡ getD s (f + 2) 0 → t ≡ set s (f + 2) y
+    → set t (f + 1) z ≡ stored sh s (aloneOf code)
 unfolding stored
-op-eswp sh s code f y z e0 e1 e2 e3 = cc
+op-eswp sh s t code f y z e0 e1 e2 e3 e4 = cc
 
 pub op-load : (sh : Shape) (s : List ℕ) (code f x : ℕ) → code ≡ 16 → f ≡ flag sh
     → set s f x ≡ onValue sh s code x
@@ -92,12 +92,12 @@ pub op-res : (sh : Shape) (s : List ℕ) (code f b x y v : ℕ) → code ≡ 34 
 unfolding stored
 op-res sh s code f b x y v e0 e1 e2 e3 e4 = cc
 
-pub op-redge : (sh : Shape) (s : List ℕ) (code f b x y v : ℕ) → code ≡ 35 → f ≡ flag sh → x ≡ getD s f 0 → y ≡ getD s b 0 → v ≡ min x (1 - y)
-    → set (set s b x) f v ≡ stored sh s (onVariable code b)
+pub op-redge : (sh : Shape) (s t : List ℕ) (code f b x y v : ℕ) → code ≡ 35 → f ≡ flag sh → x ≡ getD s f 0 → y ≡ getD s b 0 → v ≡ min x (1 - y) → t ≡ set s b x
+    → set t f v ≡ stored sh s (onVariable code b)
 unfolding stored
-op-redge sh s code f b x y v e0 e1 e2 e3 e4 = cc
+op-redge sh s t code f b x y v e0 e1 e2 e3 e4 e5 = cc
 
-pub op-fedge : (sh : Shape) (s : List ℕ) (code f b x y v : ℕ) → code ≡ 36 → f ≡ flag sh → x ≡ getD s f 0 → y ≡ getD s b 0 → v ≡ min (1 - x) y
-    → set (set s b x) f v ≡ stored sh s (onVariable code b)
+pub op-fedge : (sh : Shape) (s t : List ℕ) (code f b x y v : ℕ) → code ≡ 36 → f ≡ flag sh → x ≡ getD s f 0 → y ≡ getD s b 0 → v ≡ min (1 - x) y → t ≡ set s b x
+    → set t f v ≡ stored sh s (onVariable code b)
 unfolding stored
-op-fedge sh s code f b x y v e0 e1 e2 e3 e4 = cc
+op-fedge sh s t code f b x y v e0 e1 e2 e3 e4 e5 = cc

@@ -1,3 +1,5 @@
+use Rattle.base.specs.Answers.{shapeOf}
+use mathlib.Core.Path.{_≡_}
 use Rattle.machine.specs.PerformLaws.{op-init, op-not, op-tand, op-tor}
 use mathlib.Core.Path.{_∙_}
 use native.Mathlib.Omega.{arith}
@@ -68,7 +70,7 @@ same-length-4 : tie.Need-same-length-4
 same-length-4 c = search needs
 
 returns-4 : tie.Need-returns-4
-returns-4 c = (c .before .before .put-cell3 .ensures) ∙ op-tor _ _ _ _ _ _ _ (omega (arith, c .before .before .before .before .before .before .before .before .before .before .before .before .if1 .left, c .before .before .before .before .before .before .before .before .before .if2 .left, c .before .before .before .before .before .if3 .left, c .before .before .before .before .before .before .before .before .before .before .before .before .before .before .before .pre .1)) (c .before .before .before .before .before .before .before .before .before .before .before .before .before .flag .ensures) (c .before .before .before .before .before .before .before .before .before .before .cell-at .ensures) (c .before .before .before .before .before .before .cell-at2 .ensures) (c .before .before .before .either .ensures)
+returns-4 c = let q : c .before .before .before .before .before .before .before .before .before .before .before .before .before .before .before .args .code ≡ 3 = omega (arith, c .before .before .before .before .before .before .before .before .before .before .before .before .if1 .left, c .before .before .before .before .before .before .before .before .before .if2 .left, c .before .before .before .before .before .if3 .left, c .before .before .before .before .before .before .before .before .before .before .before .before .before .before .before .pre .1) in (c .before .before .put-cell3 .ensures) ∙ op-tor (shapeOf (c .before .before .before .before .before .before .before .before .before .before .before .before .before .before .before .args .shape)) _ _ _ _ _ _ q (c .before .before .before .before .before .before .before .before .before .before .before .before .before .flag .ensures) (c .before .before .before .before .before .before .before .before .before .before .cell-at .ensures) (c .before .before .before .before .before .before .cell-at2 .ensures) (c .before .before .before .either .ensures)
 
 pub flag-op-spec : {M : Type 1} → statement M
 flag-op-spec =

@@ -1,3 +1,5 @@
+use Rattle.base.specs.Answers.{shapeOf}
+use mathlib.Core.Path.{_≡_}
 use Rattle.machine.specs.PerformLaws.{op-push, op-pop, op-drop, op-dup, op-fswp, op-eswp}
 use lib.ListN.{set}
 use mathlib.Core.Path.{ap, _∙_}
@@ -44,7 +46,7 @@ same-length-2 : tie.Need-same-length-2
 same-length-2 c = search needs
 
 returns-2 : tie.Need-returns-2
-returns-2 c = (c .before .before .put-cell .ensures) ∙ ap (λ t. set t _ _) (c .before .before .before .before .before .before .drop-top .ensures) ∙ op-pop _ _ _ _ _ (c .before .before .before .before .before .before .before .before .if2 .taken) (c .before .before .before .before .before .before .before .before .before .before .before .before .before .before .before .flag .ensures) (c .before .before .before .before .before .before .before .before .before .before .cell-at2 .ensures)
+returns-2 c = (c .before .before .put-cell .ensures) ∙ op-pop _ _ _ _ _ _ (c .before .before .before .before .before .before .before .before .if2 .taken) (c .before .before .before .before .before .before .before .before .before .before .before .before .before .before .before .flag .ensures) (c .before .before .before .before .before .before .before .before .before .before .cell-at2 .ensures) (c .before .before .before .before .before .before .drop-top .ensures)
 
 drop-top-requires-2 : tie.Need-drop-top-requires-2
 drop-top-requires-2 c κs = search needs
@@ -77,7 +79,7 @@ same-length-5 : tie.Need-same-length-5
 same-length-5 c = search needs
 
 returns-5 : tie.Need-returns-5
-returns-5 c = (c .before .before .put-cell3 .ensures) ∙ ap (λ t. set t _ _) (c .before .before .before .before .before .before .put-cell2 .ensures) ∙ op-fswp _ _ _ _ _ _ (c .before .before .before .before .before .before .before .before .before .if5 .taken) (c .before .before .before .before .before .before .before .before .before .before .before .before .before .before .before .before .before .before .before .flag .ensures) (c .before .before .before .before .before .before .before .before .before .before .before .before .before .before .before .before .before .cell-at .ensures) (c .before .before .before .before .before .before .before .before .before .before .before .before .before .before .cell-at2 .ensures)
+returns-5 c = (c .before .before .put-cell3 .ensures) ∙ op-fswp _ _ _ _ _ _ _ (c .before .before .before .before .before .before .before .before .before .if5 .taken) (c .before .before .before .before .before .before .before .before .before .before .before .before .before .before .before .before .before .before .before .flag .ensures) (c .before .before .before .before .before .before .before .before .before .before .before .before .before .before .before .before .before .cell-at .ensures) (c .before .before .before .before .before .before .before .before .before .before .before .before .before .before .cell-at2 .ensures) (c .before .before .before .before .before .before .put-cell2 .ensures)
 
 add-t12-2 : tie.Need-add-t12-2
 add-t12-2 c = search needs
@@ -101,7 +103,7 @@ same-length-6 : tie.Need-same-length-6
 same-length-6 c = search needs
 
 returns-6 : tie.Need-returns-6
-returns-6 c = (c .before .before .put-cell5 .ensures) ∙ ap (λ t. set t _ _) (c .before .before .before .before .before .before .before .put-cell4 .ensures) ∙ op-eswp _ _ _ _ _ _ (omega (arith, c .before .before .before .before .before .before .before .before .before .before .before .before .before .before .before .before .before .if1 .left, c .before .before .before .before .before .before .before .before .before .before .before .before .before .before .before .before .if2 .left, c .before .before .before .before .before .before .before .before .before .before .before .before .before .before .before .if3 .left, c .before .before .before .before .before .before .before .before .before .before .before .before .before .before .if4 .left, c .before .before .before .before .before .before .before .before .before .before .before .before .before .if5 .left, c .before .before .before .before .before .before .before .before .before .before .before .before .before .before .before .before .before .before .before .before .before .before .before .before .before .pre .1)) (c .before .before .before .before .before .before .before .before .before .before .before .before .before .before .before .before .before .before .before .before .before .before .before .flag .ensures) (c .before .before .before .before .before .before .before .before .before .before .before .before .before .before .before .before .before .before .cell-at2 .ensures) (c .before .before .before .before .before .before .before .before .before .before .cell-at3 .ensures)
+returns-6 c = let q : c .before .before .before .before .before .before .before .before .before .before .before .before .before .before .before .before .before .before .before .before .before .before .before .before .before .args .code ≡ 9 = omega (arith, c .before .before .before .before .before .before .before .before .before .before .before .before .before .before .before .before .before .if1 .left, c .before .before .before .before .before .before .before .before .before .before .before .before .before .before .before .before .if2 .left, c .before .before .before .before .before .before .before .before .before .before .before .before .before .before .before .if3 .left, c .before .before .before .before .before .before .before .before .before .before .before .before .before .before .if4 .left, c .before .before .before .before .before .before .before .before .before .before .before .before .before .if5 .left, c .before .before .before .before .before .before .before .before .before .before .before .before .before .before .before .before .before .before .before .before .before .before .before .before .before .pre .1) in (c .before .before .put-cell5 .ensures) ∙ op-eswp (shapeOf (c .before .before .before .before .before .before .before .before .before .before .before .before .before .before .before .before .before .before .before .before .before .before .before .before .before .args .shape)) _ _ _ _ _ _ q (c .before .before .before .before .before .before .before .before .before .before .before .before .before .before .before .before .before .before .before .before .before .before .before .flag .ensures) (c .before .before .before .before .before .before .before .before .before .before .before .before .before .before .before .before .before .before .cell-at2 .ensures) (c .before .before .before .before .before .before .before .before .before .before .cell-at3 .ensures) (c .before .before .before .before .before .before .before .put-cell4 .ensures)
 
 pub stack-op-spec : {M : Type 1} → statement M
 stack-op-spec =

@@ -1,3 +1,6 @@
+use denote.Ref.{now}
+use Rattle.base.specs.Answers.{shapeOf}
+use mathlib.Core.Path.{_≡_}
 use Rattle.machine.specs.PerformLaws.{op-load, op-and, op-or, op-epush}
 use mathlib.Core.Path.{_∙_}
 use native.Mathlib.Omega.{arith}
@@ -23,7 +26,7 @@ same-length : tie.Need-same-length
 same-length c = search needs
 
 returns : tie.Need-returns
-returns c = (c .before .before .push .ensures) ∙ op-epush _ _ _ _ _ (c .before .before .before .before .if1 .taken) (c .before .before .before .before .before .flag .ensures)
+returns c = (c .before .before .push .ensures) ∙ op-epush (shapeOf (c .before .before .before .before .before .before .before .args .shape)) _ _ _ _ (c .before .before .before .before .if1 .taken) (c .before .before .before .before .before .flag .ensures)
 
 cell-at-requires : tie.Need-cell-at-requires
 cell-at-requires c κs = search needs
@@ -35,7 +38,7 @@ same-length-2 : tie.Need-same-length-2
 same-length-2 c = search needs
 
 returns-2 : tie.Need-returns-2
-returns-2 c = (c .before .before .put-cell .ensures) ∙ op-load _ _ _ _ _ (c .before .before .before .before .if2 .taken) (c .before .before .before .before .before .before .before .before .flag .ensures)
+returns-2 c = (c .before .before .put-cell .ensures) ∙ op-load (shapeOf (c .before .before .before .before .before .before .before .before .before .before .args .shape)) (now (c .before .before .before .before .before .before .before .before .before .before .args .s)) _ _ (c .before .before .before .before .before .before .before .before .before .before .args .x) (c .before .before .before .before .if2 .taken) (c .before .before .before .before .before .before .before .before .flag .ensures)
 
 both-requires : tie.Need-both-requires
 both-requires c κs = search needs
@@ -47,7 +50,7 @@ same-length-3 : tie.Need-same-length-3
 same-length-3 c = search needs
 
 returns-3 : tie.Need-returns-3
-returns-3 c = (c .before .before .put-cell2 .ensures) ∙ op-and _ _ _ _ _ _ _ (c .before .before .before .before .before .if3 .taken) (c .before .before .before .before .before .before .before .before .before .before .flag .ensures) (c .before .before .before .before .before .before .before .cell-at .ensures) (c .before .before .before .both .ensures)
+returns-3 c = (c .before .before .put-cell2 .ensures) ∙ op-and (shapeOf (c .before .before .before .before .before .before .before .before .before .before .before .before .args .shape)) (now (c .before .before .before .before .before .before .before .before .before .before .before .before .args .s)) _ _ _ _ _ (c .before .before .before .before .before .if3 .taken) (c .before .before .before .before .before .before .before .before .before .before .flag .ensures) (c .before .before .before .before .before .before .before .cell-at .ensures) (c .before .before .before .both .ensures)
 
 either-requires : tie.Need-either-requires
 either-requires c κs = search needs
@@ -59,7 +62,7 @@ same-length-4 : tie.Need-same-length-4
 same-length-4 c = search needs
 
 returns-4 : tie.Need-returns-4
-returns-4 c = (c .before .before .put-cell3 .ensures) ∙ op-or _ _ _ _ _ _ _ (omega (arith, c .before .before .before .before .before .before .before .before .before .if1 .left, c .before .before .before .before .before .before .if2 .left, c .before .before .before .before .before .if3 .left, c .before .before .before .before .before .before .before .before .before .before .before .before .pre .1)) (c .before .before .before .before .before .before .before .before .before .before .flag .ensures) (c .before .before .before .before .before .before .before .cell-at .ensures) (c .before .before .before .either .ensures)
+returns-4 c = let q : c .before .before .before .before .before .before .before .before .before .before .before .before .args .code ≡ 18 = omega (arith, c .before .before .before .before .before .before .before .before .before .if1 .left, c .before .before .before .before .before .before .if2 .left, c .before .before .before .before .before .if3 .left, c .before .before .before .before .before .before .before .before .before .before .before .before .pre .1) in (c .before .before .put-cell3 .ensures) ∙ op-or (shapeOf (c .before .before .before .before .before .before .before .before .before .before .before .before .args .shape)) (now (c .before .before .before .before .before .before .before .before .before .before .before .before .args .s)) _ _ _ _ _ q (c .before .before .before .before .before .before .before .before .before .before .flag .ensures) (c .before .before .before .before .before .before .before .cell-at .ensures) (c .before .before .before .either .ensures)
 
 pub value-op-spec : {M : Type 1} → statement M
 value-op-spec =

@@ -1,3 +1,5 @@
+use Rattle.base.specs.Answers.{shapeOf}
+use mathlib.Core.Path.{_≡_}
 use Rattle.machine.specs.PerformLaws.{op-store, op-set, op-res, op-redge, op-fedge}
 use lib.ListN.{set}
 use mathlib.Core.Path.{ap, _∙_}
@@ -74,7 +76,7 @@ same-length-4 : tie.Need-same-length-4
 same-length-4 c = search needs
 
 returns-4 : tie.Need-returns-4
-returns-4 c = (c .before .before .put-cell5 .ensures) ∙ ap (λ t. set t _ _) (c .before .before .before .before .before .before .before .before .put-cell4 .ensures) ∙ op-redge _ _ _ _ _ _ _ _ (c .before .before .before .before .before .if4 .taken) (c .before .before .before .before .before .before .before .before .before .before .before .before .before .before .before .before .before .flag .ensures) (c .before .before .before .before .before .before .before .before .before .before .before .before .before .before .before .cell-at .ensures) (c .before .before .before .before .before .before .before .before .before .before .before .before .before .cell-at2 .ensures) (c .before .before .before .both2 .ensures)
+returns-4 c = (c .before .before .put-cell5 .ensures) ∙ op-redge _ _ _ _ _ _ _ _ _ (c .before .before .before .before .before .if4 .taken) (c .before .before .before .before .before .before .before .before .before .before .before .before .before .before .before .before .before .flag .ensures) (c .before .before .before .before .before .before .before .before .before .before .before .before .before .before .before .cell-at .ensures) (c .before .before .before .before .before .before .before .before .before .before .before .before .before .cell-at2 .ensures) (c .before .before .before .both2 .ensures) (c .before .before .before .before .before .before .before .before .put-cell4 .ensures)
 
 sub-both-3 : tie.Need-sub-both-3
 sub-both-3 c = omega (arith, c .before .before .before .before .before .before .before .before .before .before .before .before .before .before .before .pre .0 .storage .bits (c .before .before .before .before .before .before .before .before .before .before .before .before .before .flag .result .0), (c .before .before .before .before .before .before .before .before .before .before .before .cell-at .ensures))
@@ -89,7 +91,7 @@ same-length-5 : tie.Need-same-length-5
 same-length-5 c = search needs
 
 returns-5 : tie.Need-returns-5
-returns-5 c = (c .before .before .put-cell6 .ensures) ∙ ap (λ t. set t _ _) (c .before .before .before .before .before .before .before .before .put-cell4 .ensures) ∙ op-fedge _ _ _ _ _ _ _ _ (omega (arith, c .before .before .before .before .before .before .before .before .before .before .before .before .if1 .left, c .before .before .before .before .before .before .before .before .before .before .before .if2 .left, c .before .before .before .before .before .before .before .before .before .before .if3 .left, c .before .before .before .before .before .if4 .left, c .before .before .before .before .before .before .before .before .before .before .before .before .before .before .before .before .before .before .before .pre .1)) (c .before .before .before .before .before .before .before .before .before .before .before .before .before .before .before .before .before .flag .ensures) (c .before .before .before .before .before .before .before .before .before .before .before .before .before .before .before .cell-at .ensures) (c .before .before .before .before .before .before .before .before .before .before .before .before .before .cell-at2 .ensures) (c .before .before .before .both3 .ensures)
+returns-5 c = let q : c .before .before .before .before .before .before .before .before .before .before .before .before .before .before .before .before .before .before .before .args .code ≡ 36 = omega (arith, c .before .before .before .before .before .before .before .before .before .before .before .before .if1 .left, c .before .before .before .before .before .before .before .before .before .before .before .if2 .left, c .before .before .before .before .before .before .before .before .before .before .if3 .left, c .before .before .before .before .before .if4 .left, c .before .before .before .before .before .before .before .before .before .before .before .before .before .before .before .before .before .before .before .pre .1) in (c .before .before .put-cell6 .ensures) ∙ op-fedge (shapeOf (c .before .before .before .before .before .before .before .before .before .before .before .before .before .before .before .before .before .before .before .args .shape)) _ _ _ _ _ _ _ _ q (c .before .before .before .before .before .before .before .before .before .before .before .before .before .before .before .before .before .flag .ensures) (c .before .before .before .before .before .before .before .before .before .before .before .before .before .before .before .cell-at .ensures) (c .before .before .before .before .before .before .before .before .before .before .before .before .before .cell-at2 .ensures) (c .before .before .before .both3 .ensures) (c .before .before .before .before .before .before .before .before .put-cell4 .ensures)
 
 pub variable-op-spec : {M : Type 1} → statement M
 variable-op-spec =
