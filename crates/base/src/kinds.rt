@@ -11,6 +11,25 @@ pub struct Row(pub u16);
 // An instruction's number.
 pub struct Instr(pub u16);
 
+impl Cell {
+    // R5: the cell that a byte names.
+    pub fn of_byte(b: u8) -> Cell
+        ensures { λ r. ⌜ r .0 ≡ b ⌝ }
+    {
+        Cell(b as u16)
+    }
+}
+
+impl Instr {
+    // R5: the instruction that a two-byte number names.
+    pub fn of_word(n: usize) -> Instr
+        requires { ⌜ n < 65536 ⌝ }
+        ensures { λ r. ⌜ r .0 ≡ n ⌝ }
+    {
+        Instr(n as u16)
+    }
+}
+
 impl Row {
     // R26: the constants.
     pub const FALSE: Row = Row(0);

@@ -1,6 +1,8 @@
 pub mod Perform
 pub mod PerformLaws
+pub mod Codes
 pub mod Value
 pub mod ValueLaws
 pub mod Run
 pub mod RunLaws
+pub mod ObeyLaws

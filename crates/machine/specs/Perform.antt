@@ -4,6 +4,7 @@ use mathlib.Core.List.{List, [], _∷_}
 use lib.ListN.{getD, set}
 use Rattle.rules.specs.Shape as R
 use Rattle.rules.specs.Expr.{Exp}
+use Rattle.rules.specs.Instr.{Instr, JP, JPC, JS, JSC, END}
 use Rattle.rules.specs.Instr.{Plain, INIT, NOT, TAND, TOR, PUSH, POP, DROP, DUP, FSWP, ESWP, LOAD, AND, OR, EPUSH, STORE, SET, RES, REDGE, FEDGE}
 use Rattle.base.specs.declared.shape.Shape.{Shape}
 use Rattle.base.specs.Answers.{shapeOf}
@@ -32,3 +33,7 @@ onValue sh s c x =
 -- R10: the instruction of a code from 32 on that takes a variable.
 abbrev pub onVariable : ℕ → ℕ → Plain
 onVariable c b = getD (STORE b ∷ SET b ∷ RES b ∷ REDGE b ∷ FEDGE b ∷ []) (c - 32) INIT
+
+-- R10: the instruction of a code from 48 on that takes a label.
+abbrev pub onLabel : ℕ → ℕ → Instr
+onLabel c l = getD (JP l ∷ JPC l ∷ JS l ∷ JSC l ∷ []) (c - 48) END

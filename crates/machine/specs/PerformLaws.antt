@@ -1,11 +1,13 @@
 -- The stores that the code makes for each code are those that its instruction's table of bytes has.
-use Prim.Native.Nat.{ℕ, _+_, _-_, min, max}
-use mathlib.Core.Path.{_≡_}
+use Prim.Native.Nat.{ℕ, zero, suc, _+_, _-_, _≤_, _<_, min, max}
+use mathlib.Core.Path.{_≡_, refl}
+use native.Mathlib.Omega.{arith}
+use Rattle.rules.specs.Expr.{Exp}
 use mathlib.Core.List.{List}
 use lib.ListN.{getD, set}
 use Rattle.rules.specs.Shape.{Shape, flag}
-use Rattle.storage.specs.Cells.{pushOn, dropTop, resetFrom, stored}
-use Rattle.machine.specs.Perform.{aloneOf, onValue, onVariable}
+use Rattle.storage.specs.Cells.{byteOf, pushOn, dropTop, resetFrom, stored}
+use Rattle.machine.specs.Perform.{aloneOf, onExpr, onValue, onVariable}
 
 pub op-init : (sh : Shape) (s : List ℕ) (code f : ℕ) → code ≡ 0 → f ≡ flag sh
     → resetFrom f s ≡ stored sh s (aloneOf code)
@@ -101,3 +103,18 @@ pub op-fedge : (sh : Shape) (s t : List ℕ) (code f b x y v : ℕ) → code ≡
     → set t f v ≡ stored sh s (onVariable code b)
 unfolding stored
 op-fedge sh s t code f b x y v e0 e1 e2 e3 e4 e5 = cc
+
+-- The bytes after an instruction that takes an expression, by the value of the expression.
+pub value-stored : (sh : Shape) (s : List ℕ) (c : ℕ) (x : Exp) (v : ℕ) → 16 ≤ c → c < 20 → v ≡ byteOf s x
+    → onValue sh s c v ≡ stored sh s (onExpr c x)
+unfolding stored
+value-stored sh s c x v h k e =
+    let q : c ≡ 16 + (c - 16) = omega arith in
+    rw (e, q) (go (c - 16) (omega arith))
+  where
+    go : (j : ℕ) → j < 4 → onValue sh s (16 + j) (byteOf s x) ≡ stored sh s (onExpr (16 + j) x)
+    go zero l = refl
+    go (suc zero) l = refl
+    go (suc (suc zero)) l = refl
+    go (suc (suc (suc zero))) l = refl
+    go (suc (suc (suc (suc j)))) l = absurd (omega arith)

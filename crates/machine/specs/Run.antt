@@ -5,15 +5,16 @@ use mathlib.Core.List.{List, [], _∷_}
 use lib.ListN.{length, getD}
 use Rattle.rules.specs.Verdict.{Verdict, granted, refused}
 use Rattle.rules.specs.Edition.{old}
+use Rattle.rules.specs.Instr.{Plain, Instr, plain, END}
 use Rattle.rules.specs.ProgramFile.{Program, readProgram}
 use Rattle.rules.specs.Machine.{due, back, step, scanFrom}
 use Rattle.base.specs.declared.shape.Shape.{Shape}
 use Rattle.base.specs.Answers.{shapeOf}
-use Rattle.machine.specs.declared.run.Move.{Move}
-use Rattle.machine.specs.declared.run.Move.the-variants.{On, Call, End}
+use Rattle.machine.specs.declared.obey.Move.{Move}
+use Rattle.machine.specs.declared.obey.Move.the-variants.{On, Call, End}
 use Rattle.machine.specs.declared.run.Ran.{Ran}
 use Rattle.machine.specs.declared.run.Ran.the-variants.{Back, Spent}
-use Rattle.storage.specs.Cells.{bitsOf, Storage}
+use Rattle.storage.specs.Cells.{bitsOf, stored, Storage}
 
 -- The program of an accepted file.
 abbrev pub grantedProgram : Verdict Program → Program
@@ -23,6 +24,10 @@ grantedProgram (refused n p) = record { shape = record { depth = 0; inputs = 0; 
 unfoldable pub programIn : List ℕ → Program
 programIn file = grantedProgram (readProgram old file)
 
+-- Its instruction i.
+abbrev pub instrAt : List ℕ → ℕ → Instr
+instrAt file i = getD (programIn file .instrs) i END
+
 -- The file is accepted, of the shape and with n instructions, of which i is one; the storage fits.
 pub record Runnable (file : List ℕ) (sh : Shape) (n : ℕ) (s : List ℕ) (i : ℕ) : Type 0 where
   pub accepted : readProgram old file ≡ granted (programIn file)
@@ -31,6 +36,12 @@ pub record Runnable (file : List ℕ) (sh : Shape) (n : ℕ) (s : List ℕ) (i :
   pub most : n ≤ 512
   pub low : i < n
   pub stored : Storage (programIn file .shape) s
+
+-- R16 to R19: instruction i is a plain one, which leaves s′.
+pub record Performed (file s : List ℕ) (i : ℕ) (s′ : List ℕ) : Type 0 where
+  pub what : Plain
+  pub is : instrAt file i ≡ plain what
+  pub gives : s′ ≡ stored (programIn file .shape) s what
 
 -- R22, R23: where one step from instruction i leads, whatever the return list.
 abbrev pub Leads : Program → List ℕ → ℕ → Move → List ℕ → Type 0

@@ -11,7 +11,7 @@ use Rattle.rules.specs.ProgramFile.{Program}
 use Rattle.rules.specs.Machine.{State, due, stopped, back, step, Scanned, scanFrom, scanProgram}
 use Rattle.base.specs.declared.shape.Shape.{Shape}
 use Rattle.base.specs.declared.kinds.Instr.{Instr}
-use Rattle.machine.specs.declared.run.Move.the-variants.{On, Call, End}
+use Rattle.machine.specs.declared.obey.Move.the-variants.{On, Call, End}
 use Rattle.machine.specs.declared.run.Ran.{Ran}
 use Rattle.machine.specs.declared.run.Ran.the-variants.{Back, Spent}
 use Rattle.storage.specs.Cells.{bitsOf, Storage}

@@ -1,19 +1,11 @@
 // The machine's steps, from an instruction to the END that closes its part.
 use base::kinds::Instr;
 use base::shape::Shape;
+use crate::obey::obey;
+use crate::obey::Move;
 
 ghost use mathlib.Core.Path.{_≡_};
-ghost use Rattle.machine.specs.Run.{Runnable, Obeys, Ends};
-
-// Where the machine goes after an instruction.
-pub enum Move {
-    // To a later instruction.
-    On(Instr),
-    // To a later instruction, and back to the next one when that part ends.
-    Call(Instr),
-    // Back to where this part was called from.
-    End,
-}
+ghost use Rattle.machine.specs.Run.{Runnable, Ends};
 
 // How a run from an instruction ended.
 pub enum Ran {
@@ -21,14 +13,6 @@ pub enum Ran {
     Back(u32),
     // The budget was spent, and this instruction is due.
     Spent(Instr),
-}
-
-// Performs one instruction on the storage, and says where the machine goes (R16 to R23).
-pub fn obey(file: &[u8], shape: Shape, n: usize, s: &mut [u8], i: Instr) -> Move
-    requires { ⌜ Runnable (now file) shape n (now s) (i .0) ⌝ }
-    ensures { λ r. ⌜ Obeys (now (file .entry)) (now (s .entry)) (i .0) r (now (s .exit)) ⌝ }
-{
-    Move::End
 }
 
 // Steps from instruction i until its part ends or the budget is spent. The return list is the recursion itself (R21).

@@ -1,5 +1,5 @@
 use mathlib.Core.Path.{_≡_}
-use Rattle.machine.specs.declared.run.Move.the-variants.{On, Call, End}
+use Rattle.machine.specs.declared.obey.Move.the-variants.{On, Call, End}
 use Rattle.machine.specs.declared.run.Ran.the-variants.{Back, Spent}
 use mathlib.Core.Path.{refl}
 use Rattle.machine.specs.RunLaws.{runnable-at, ends-spent, ends-end, ends-on, ends-call, ends-lost}
@@ -12,7 +12,7 @@ use borrow.Fn.PlainCycle.{Measures, is, falls, and}
 use Rattle.machine.proofs.run.run_from.Reads as run-from
 use Rattle.machine.proofs.run.run_from.Kinds as run-from-kinds
 use Rattle.machine.proofs.run.+run_from.Lts-run_from as run-from-lts
-use Rattle.machine.proofs.run.obey.Reads as obey-reads
+use Rattle.machine.proofs.obey.obey.Reads as obey-reads
 use Rattle.machine.proofs.run.+run_from.{statement}
 use Rattle.machine.proofs.run.+run_from.Tie.{close}
 

@@ -1,0 +1,65 @@
+use mathlib.Core.Path.{refl, _∙_}
+use Rattle.machine.specs.ObeyLaws.{fitting, inside, label-there, obeys-jp, obeys-js, obeys-jpc, obeys-jsc, obeys-stay}
+use native.Mathlib.Omega.{arith}
+use borrow.Author.Needs.{needs}
+use Rattle.machine.proofs.obey.jump_at.Statement.{statement}
+use Rattle.machine.proofs.obey.jump_at.Tie as tie
+use Rattle.machine.proofs.obey.jump_at.Reads as reads
+use Rattle.machine.proofs.obey.jump_at.Lts as lts
+use Rattle.base.proofs.bytes.word.Reads as word-reads
+use Rattle.base.proofs.kinds.Instr.of_word.Reads as of-word-reads
+use Rattle.base.proofs.shape.Shape.flag.Reads as flag-reads
+use Rattle.storage.proofs.cell_at.Reads as cell-at-reads
+
+shared-slice-read-code : tie.Need-shared-slice-read-code
+shared-slice-read-code c = inside _ _ _ _ _ (c .before .before .before .pre .0) _ (c .before .before .before .pre .1 .0)
+
+add-word : tie.Need-add-word
+add-word c = search needs
+
+word-requires : tie.Need-word-requires
+word-requires c κs = label-there _ _ _ _ _ (c .before .before .before .pre .0) _ (c .before .before .before .pre .1 .0) _ refl (c .before .before .before .pre .1 .2)
+
+of-word-requires : tie.Need-of-word-requires
+of-word-requires c κs = search needs
+
+returns : tie.Need-returns
+returns c = obeys-jp _ _ _ _ _ (c .before .before .before .before .before .before .pre .0) _ (c .before .before .before .before .before .before .pre .1 .0) _ refl (c .before .before .before .before .before .before .pre .1 .2) _ ((c .before .of-word .ensures) ∙ (c .before .before .word .ensures .0)) (c .if1 .taken)
+
+returns-2 : tie.Need-returns-2
+returns-2 c = obeys-js _ _ _ _ _ (c .before .before .before .before .before .before .before .pre .0) _ (c .before .before .before .before .before .before .before .pre .1 .0) _ refl (c .before .before .before .before .before .before .before .pre .1 .2) _ ((c .before .before .of-word .ensures) ∙ (c .before .before .before .word .ensures .0)) (c .if2 .taken)
+
+flag-requires : tie.Need-flag-requires
+flag-requires c κs = omega (arith, fitting _ _ _ _ _ (c .before .before .before .before .before .before .before .pre .0) .most)
+
+cell-at-requires : tie.Need-cell-at-requires
+cell-at-requires c κs = omega (arith, fitting _ _ _ _ _ (c .before .before .before .before .before .before .before .before .pre .0) .storage .size, (c .flag .ensures))
+
+add-t15 : tie.Need-add-t15
+add-t15 c = omega (arith, (c .before .before .before .before .before .before .before .before .before .before .before .pre .0) .low, (c .before .before .before .before .before .before .before .before .before .before .before .pre .0) .most)
+
+returns-3 : tie.Need-returns-3
+returns-3 c = obeys-stay _ _ _ _ _ (c .before .before .before .before .before .before .before .before .before .before .before .pre .0) _ (c .before .before .before .before .before .before .before .before .before .before .before .pre .1 .0) _ refl (c .before .before .before .before .before .before .before .before .before .before .before .pre .1 .2) _ ((c .before .before .before .before .before .before .of-word .ensures) ∙ (c .before .before .before .before .before .before .before .word .ensures .0)) _ _ (c .before .before .before .flag .ensures) (c .before .before .cell-at .ensures) (c .before .before .before .before .before .if1 .left) (c .before .before .before .before .if2 .left) (c .before .if3 .taken) _ refl
+
+returns-4 : tie.Need-returns-4
+returns-4 c = obeys-jpc _ _ _ _ _ (c .before .before .before .before .before .before .before .before .before .before .before .pre .0) _ (c .before .before .before .before .before .before .before .before .before .before .before .pre .1 .0) _ refl (c .before .before .before .before .before .before .before .before .before .before .before .pre .1 .2) _ ((c .before .before .before .before .before .before .of-word .ensures) ∙ (c .before .before .before .before .before .before .before .word .ensures .0)) _ _ (c .before .before .before .flag .ensures) (c .before .before .cell-at .ensures) (c .if4 .taken) (c .before .if3 .left)
+
+returns-5 : tie.Need-returns-5
+returns-5 c = obeys-jsc _ _ _ _ _ (c .before .before .before .before .before .before .before .before .before .before .before .pre .0) _ (c .before .before .before .before .before .before .before .before .before .before .before .pre .1 .0) _ refl (c .before .before .before .before .before .before .before .before .before .before .before .pre .1 .2) _ ((c .before .before .before .before .before .before .of-word .ensures) ∙ (c .before .before .before .before .before .before .before .word .ensures .0)) _ _ (c .before .before .before .flag .ensures) (c .before .before .cell-at .ensures) (c .before .before .before .before .before .if1 .left) (c .if4 .left) (c .before .before .before .before .if2 .left) (c .before .if3 .left)
+
+pub jump-at-spec : {M : Type 1} → statement M
+jump-at-spec =
+    tie.close
+    (tie.spec
+    shared-slice-read-code
+    add-word
+    word-requires
+    of-word-requires
+    returns
+    returns-2
+    flag-requires
+    cell-at-requires
+    add-t15
+    returns-3
+    returns-4
+    returns-5)

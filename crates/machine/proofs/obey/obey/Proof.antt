@@ -1,0 +1,74 @@
+use mathlib.Core.Path.{refl, _∙_}
+use Rattle.machine.specs.ObeyLaws.{contents-there, fitting, inside, obeys-end, obeys-plain}
+use native.Mathlib.Omega.{arith}
+use borrow.Author.Needs.{needs}
+use Rattle.machine.proofs.obey.obey.Statement.{statement}
+use Rattle.machine.proofs.obey.obey.Tie as tie
+use Rattle.machine.proofs.obey.obey.Reads as reads
+use Rattle.machine.proofs.obey.obey.Lts as lts
+use Rattle.base.proofs.shape.Shape.flag.Reads as flag-reads
+use Rattle.machine.proofs.obey.body_at.Reads as body-at-reads
+use Rattle.machine.proofs.obey.jump_at.Reads as jump-at-reads
+use Rattle.machine.proofs.obey.perform_at.Reads as perform-at-reads
+use Rattle.storage.proofs.reset.Reads as reset-reads
+
+body-at-requires : tie.Need-body-at-requires
+body-at-requires c κs = ((c .before .before .pre) .low, (c .before .before .pre) .most, contents-there _ _ _ _ _ (c .before .before .pre))
+
+shared-slice-read-if1 : tie.Need-shared-slice-read-if1
+shared-slice-read-if1 c = inside _ _ _ _ _ (c .before .before .before .before .pre) _ (c .before .body-at .ensures .0)
+
+flag-requires : tie.Need-flag-requires
+flag-requires c κs = omega (arith, fitting _ _ _ _ _ (c .before .before .before .before .before .before .pre) .most)
+
+reset-requires : tie.Need-reset-requires
+reset-requires c κs = omega (arith, fitting _ _ _ _ _ (c .before .before .before .before .before .before .before .pre) .storage .size, (c .flag .ensures))
+
+same-length : tie.Need-same-length
+same-length c = search needs
+
+returns : tie.Need-returns
+returns c = obeys-end _ _ _ _ _ (c .before .before .before .before .before .before .before .before .before .before .pre) _ (c .before .before .before .before .before .before .before .body-at .ensures .0) _ refl (c .before .before .before .before .before .if1 .taken) _ (c .before .before .before .flag .ensures) _ (c .before .before .reset .ensures)
+
+shared-slice-read-if2 : tie.Need-shared-slice-read-if2
+shared-slice-read-if2 c = inside _ _ _ _ _ (c .before .before .before .before .before .before .pre) _ (c .before .before .before .body-at .ensures .0)
+
+perform-at-requires : tie.Need-perform-at-requires
+perform-at-requires c κs = ((c .before .before .before .before .before .before .before .before .pre), ((c .before .before .before .before .before .body-at .ensures), (c .before .before .before .if1 .left, c .before .if2 .taken)))
+
+add-t18 : tie.Need-add-t18
+add-t18 c = omega (arith, (c .before .before .before .before .before .before .before .before .before .before .before .before .pre) .low, (c .before .before .before .before .before .before .before .before .before .before .before .before .pre) .most)
+
+same-length-2 : tie.Need-same-length-2
+same-length-2 c = search needs
+
+returns-2 : tie.Need-returns-2
+returns-2 c = obeys-plain _ _ _ _ _ (c .before .before .before .before .before .before .before .before .before .before .before .before .pre) _ (c .before .before .before .perform-at .ensures) _ refl
+
+jump-at-requires : tie.Need-jump-at-requires
+jump-at-requires c κs = ((c .before .before .before .before .before .before .before .before .pre), ((c .before .before .before .before .before .body-at .ensures .0), (c .before .before .before .before .before .body-at .ensures .1), omega (arith, c .before .if2 .left)))
+
+same-length-3 : tie.Need-same-length-3
+same-length-3 c = search needs
+
+returns-3 : tie.Need-returns-3
+returns-3 c = (c .jump-at .ensures)
+
+pub obey-spec : {M : Type 1} → statement M
+obey-spec =
+    tie.close
+    (tie.spec
+    body-at-requires
+    shared-slice-read-if1
+    flag-requires
+    reset-requires
+    same-length
+    returns
+    shared-slice-read-if2
+    perform-at-requires
+    add-t18
+    same-length-2
+    returns-2
+    jump-at-requires
+    same-length-3
+    returns-3)

@@ -1,0 +1,100 @@
+use mathlib.Core.Path.{refl, _∙_}
+use Rattle.machine.specs.ObeyLaws.{fitting, inside, by-alone, by-value, by-variable, readable, value-codes, variable-there, variable-codes}
+use native.Mathlib.Omega.{arith}
+use borrow.Author.Needs.{needs}
+use Rattle.machine.proofs.obey.perform_at.Statement.{statement}
+use Rattle.machine.proofs.obey.perform_at.Tie as tie
+use Rattle.machine.proofs.obey.perform_at.Reads as reads
+use Rattle.machine.proofs.obey.perform_at.Lts as lts
+use Rattle.base.proofs.kinds.Cell.of_byte.Reads as of-byte-reads
+use Rattle.base.proofs.shape.Shape.vars.Reads as vars-reads
+use Rattle.machine.proofs.eval.value_at.Reads as value-at-reads
+use Rattle.machine.proofs.perform.flag_op.Reads as flag-op-reads
+use Rattle.machine.proofs.perform.stack_op.Reads as stack-op-reads
+use Rattle.machine.proofs.perform.value_op.Reads as value-op-reads
+use Rattle.machine.proofs.perform.variable_op.Reads as variable-op-reads
+
+shared-slice-read-code : tie.Need-shared-slice-read-code
+shared-slice-read-code c = inside _ _ _ _ _ (c .before .before .before .pre .0) _ (c .before .before .before .pre .1 .0 .0)
+
+flag-op-requires : tie.Need-flag-op-requires
+flag-op-requires c κs = (fitting _ _ _ _ _ (c .before .before .before .before .before .pre .0), c .before .if1 .taken)
+
+same-length : tie.Need-same-length
+same-length c = search needs
+
+returns : tie.Need-returns
+returns c = by-alone _ _ _ _ _ (c .before .before .before .before .before .before .before .before .pre .0) _ (c .before .before .before .before .before .before .before .before .pre .1 .0 .0) _ refl (omega (arith, c .before .before .before .before .if1 .taken)) _ (c .before .before .flag-op .ensures)
+
+stack-op-requires : tie.Need-stack-op-requires
+stack-op-requires c κs = (fitting _ _ _ _ _ (c .before .before .before .before .before .before .pre .0), (omega (arith, c .before .before .if1 .left), c .before .if2 .taken))
+
+same-length-2 : tie.Need-same-length-2
+same-length-2 c = search needs
+
+returns-2 : tie.Need-returns-2
+returns-2 c = by-alone _ _ _ _ _ (c .before .before .before .before .before .before .before .before .before .pre .0) _ (c .before .before .before .before .before .before .before .before .before .pre .1 .0 .0) _ refl (c .before .before .before .before .if2 .taken) _ (c .before .before .stack-op .ensures)
+
+vars-requires : tie.Need-vars-requires
+vars-requires c κs = search needs
+
+add-value-at : tie.Need-add-value-at
+add-value-at c = search needs
+
+add-value-at-2 : tie.Need-add-value-at-2
+add-value-at-2 c = search needs
+
+value-at-requires : tie.Need-value-at-requires
+value-at-requires c κs = readable _ _ _ _ _ (c .before .before .before .before .before .before .before .before .pre .0) _ (c .before .before .before .before .before .before .before .before .pre .1 .0 .0) _ refl (omega (arith, c .before .before .before .if2 .left, c .before .before .before .before .before .before .before .before .pre .1 .1 .0)) (c .before .before .if3 .taken) _ (c .vars .ensures)
+
+value-op-requires : tie.Need-value-op-requires
+value-op-requires c κs = (fitting _ _ _ _ _ (c .before .before .before .before .before .before .before .before .before .before .pre .0), value-codes _ _ _ _ _ (c .before .before .before .before .before .before .before .before .before .before .pre .0) _ (c .before .before .before .before .before .before .before .before .before .before .pre .1 .0 .0) _ refl (omega (arith, c .before .before .before .before .before .if2 .left, c .before .before .before .before .before .before .before .before .before .before .pre .1 .1 .0)) (c .before .before .before .before .if3 .taken))
+
+same-length-3 : tie.Need-same-length-3
+same-length-3 c = search needs
+
+returns-3 : tie.Need-returns-3
+returns-3 c = by-value _ _ _ _ _ (c .before .before .before .before .before .before .before .before .before .before .before .before .before .pre .0) _ (c .before .before .before .before .before .before .before .before .before .before .before .before .before .pre .1 .0 .0) _ refl (omega (arith, c .before .before .before .before .before .before .before .before .if2 .left, c .before .before .before .before .before .before .before .before .before .before .before .before .before .pre .1 .1 .0)) (c .before .before .before .before .before .before .before .if3 .taken) _ (c .before .before .before .before .before .vars .ensures) _ (c .before .before .before .before .value-at .ensures) _ (c .before .before .value-op .ensures)
+
+add-of-byte : tie.Need-add-of-byte
+add-of-byte c = search needs
+
+shared-slice-read-of-byte : tie.Need-shared-slice-read-of-byte
+shared-slice-read-of-byte c = variable-there _ _ _ _ _ (c .before .before .before .before .before .before .before .before .pre .0) _ (c .before .before .before .before .before .before .before .before .pre .1 .0 .0) _ refl (omega (arith, c .before .before .if3 .left)) (c .before .before .before .before .before .before .before .before .pre .1 .1 .1)
+
+of-byte-requires : tie.Need-of-byte-requires
+of-byte-requires c κs = search needs
+
+variable-op-requires : tie.Need-variable-op-requires
+variable-op-requires c κs = (fitting _ _ _ _ _ (c .before .before .before .before .before .before .before .before .before .pre .0), variable-codes _ _ _ _ _ (c .before .before .before .before .before .before .before .before .before .pre .0) _ (c .before .before .before .before .before .before .before .before .before .pre .1 .0 .0) _ refl (omega (arith, c .before .before .before .if3 .left)) (c .before .before .before .before .before .before .before .before .before .pre .1 .1 .1) _ (c .of-byte .ensures))
+
+same-length-4 : tie.Need-same-length-4
+same-length-4 c = search needs
+
+returns-4 : tie.Need-returns-4
+returns-4 c = by-variable _ _ _ _ _ (c .before .before .before .before .before .before .before .before .before .before .before .before .pre .0) _ (c .before .before .before .before .before .before .before .before .before .before .before .before .pre .1 .0 .0) _ refl (omega (arith, c .before .before .before .before .before .before .if3 .left)) (c .before .before .before .before .before .before .before .before .before .before .before .before .pre .1 .1 .1) _ (c .before .before .before .of-byte .ensures) _ (c .before .before .variable-op .ensures)
+
+pub perform-at-spec : {M : Type 1} → statement M
+perform-at-spec =
+    tie.close
+    (tie.spec
+    shared-slice-read-code
+    flag-op-requires
+    same-length
+    returns
+    stack-op-requires
+    same-length-2
+    returns-2
+    vars-requires
+    add-value-at
+    add-value-at-2
+    value-at-requires
+    value-op-requires
+    same-length-3
+    returns-3
+    add-of-byte
+    shared-slice-read-of-byte
+    of-byte-requires
+    variable-op-requires
+    same-length-4
+    returns-4)
