@@ -1,6 +1,5 @@
 pub mod Perform
 pub mod PerformLaws
-pub mod Codes
 pub mod Value
 pub mod ValueLaws
 pub mod Run

@@ -30,9 +30,10 @@ use Rattle.storage.specs.Cells.{bitsOf, byteOf, Storage, resetFrom, stored}
 use Rattle.storage.specs.Stores.{getD-bits, bits-back, performed-storage, perform-stored}
 use Rattle.machine.specs.declared.obey.Move.the-variants.{On, Call, End}
 use Rattle.machine.specs.declared.eval.Valued.{Valued}
-use Rattle.machine.specs.Perform.{Fitting, aloneOf, onExpr, onValue, onVariable, onLabel}
+use Rattle.program.specs.Codes.{aloneOf, onExpr, onVariable, onLabel}
+use Rattle.machine.specs.Perform.{Fitting, onValue}
 use Rattle.machine.specs.PerformLaws.{value-stored}
-use Rattle.machine.specs.Codes.{Coded, coded}
+use Rattle.program.specs.Codes.{Coded, coded}
 use Rattle.machine.specs.Value.{Reads, Readable, Values}
 use Rattle.machine.specs.Run.{programIn, instrAt, Performed, Runnable, Leads, Obeys}
 
@@ -47,7 +48,7 @@ module _ (file : List ℕ) (sh : Shape) (n : ℕ) (s : List ℕ) (i : ℕ) (r : 
   limits = shape-limits old (programIn file .shape) (read-shape old file (programIn file) (r .accepted))
 
   -- The contents are all there.
-  pub contents-there : 7 + 2 * n ≤ length file
+  pub contents-there : entryAt old n ≤ length file
   contents-there = omega (arith, decodes .contents, r .count)
 
   pub fitting : Fitting sh s

@@ -16,24 +16,8 @@ pub record Fitting (sh : Shape) (s : List ℕ) : Type 0 where
   pub deep : 2 ≤ sh .depth
   pub most : R.vars (shapeOf sh) ≤ 200
 
--- R10: the instruction of a code below 10.
-abbrev pub aloneOf : ℕ → Plain
-aloneOf c = getD (INIT ∷ NOT ∷ TAND ∷ TOR ∷ PUSH ∷ POP ∷ DROP ∷ DUP ∷ FSWP ∷ ESWP ∷ []) c INIT
-
--- R10: the instruction of a code from 16 on that takes an expression.
-abbrev pub onExpr : ℕ → Exp → Plain
-onExpr c x = getD (LOAD x ∷ AND x ∷ OR x ∷ EPUSH x ∷ []) (c - 16) INIT
-
 -- R17, R19: the bytes after it, where x is the value of the expression.
 abbrev pub onValue : R.Shape → List ℕ → ℕ → ℕ → List ℕ
 onValue sh s c x =
     let f = R.flag sh in
     getD (set s f x ∷ set s f (min (getD s f 0) x) ∷ set s f (max (getD s f 0) x) ∷ pushOn f x s ∷ []) (c - 16) s
-
--- R10: the instruction of a code from 32 on that takes a variable.
-abbrev pub onVariable : ℕ → ℕ → Plain
-onVariable c b = getD (STORE b ∷ SET b ∷ RES b ∷ REDGE b ∷ FEDGE b ∷ []) (c - 32) INIT
-
--- R10: the instruction of a code from 48 on that takes a label.
-abbrev pub onLabel : ℕ → ℕ → Instr
-onLabel c l = getD (JP l ∷ JPC l ∷ JS l ∷ JSC l ∷ []) (c - 48) END

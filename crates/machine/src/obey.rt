@@ -8,12 +8,13 @@ use base::bytes::word;
 use base::kinds::Cell;
 use base::kinds::Instr;
 use base::shape::Shape;
+use program::body::body_at;
 use storage::cell_at;
 use storage::reset;
 
 ghost use mathlib.Core.Path.{_≡_};
-ghost use Prim.Native.Nat.{_+_, _*_, _≤_, _<_};
-ghost use lib.ListN.{length, getD};
+ghost use Prim.Native.Nat.{_≤_, _<_};
+ghost use lib.ListN.{getD};
 ghost use Rattle.rules.specs.Edition.{old};
 ghost use Rattle.rules.specs.ProgramFile.{bodyAt};
 ghost use Rattle.machine.specs.Run.{Runnable, Performed, Obeys};
@@ -26,14 +27,6 @@ pub enum Move {
     Call(Instr),
     // Back to where this part was called from.
     End,
-}
-
-// R9: where the body of instruction i of n stands, by its entry.
-fn body_at(file: &[u8], n: usize, i: Instr) -> usize
-    requires { ⌜ (i .0 < n) × (n ≤ 512) × (7 + 2 * n ≤ length (now file)) ⌝ }
-    ensures { λ r. ⌜ (r ≡ bodyAt old (now (file .entry)) n (i .0)) × (r < 67000) ⌝ }
-{
-    7 + 2 * n + word(file, 7 + 2 * (i.0 as usize))
 }
 
 // Performs the plain instruction i, whose code stands at a place (R16 to R19).

@@ -1,5 +1,5 @@
 -- What the code at an instruction's place tells of the instruction.
-use Prim.Native.Nat.{ℕ, suc, _+_, _≤_, _<_}
+use Prim.Native.Nat.{ℕ, suc, _+_, _-_, _≤_, _<_}
 use mathlib.Core.Path.{_≡_, refl, ap, _∙_}
 use mathlib.Core.Bool.{Bool, true, false}
 use mathlib.Core.List.{List, [], _∷_}
@@ -12,10 +12,26 @@ use Rattle.rules.specs.Lists.{numberAt, orElse}
 use Rattle.rules.specs.Edition.{Edition}
 use Rattle.rules.specs.Shape.{Shape, vars}
 use Rattle.rules.specs.Expr.{Exp, Read, readExpr}
-use Rattle.rules.specs.Instr.{Instr, plain, END}
+use Rattle.rules.specs.Instr.{Plain, INIT, NOT, TAND, TOR, PUSH, POP, DROP, DUP, FSWP, ESWP, LOAD, AND, OR, EPUSH, STORE, SET, RES, REDGE, FEDGE}
+use Rattle.rules.specs.Instr.{Instr, plain, JP, JPC, JS, JSC, END}
 use Rattle.rules.specs.ProgramFile.{Form, alone, withExpr, withVar, withLabel, unknown, codes, formOf}
 use Rattle.laws.specs.Decode.{Says}
-use Rattle.machine.specs.Perform.{aloneOf, onExpr, onVariable, onLabel}
+
+-- R10: the instruction of a code below 10.
+abbrev pub aloneOf : ℕ → Plain
+aloneOf c = getD (INIT ∷ NOT ∷ TAND ∷ TOR ∷ PUSH ∷ POP ∷ DROP ∷ DUP ∷ FSWP ∷ ESWP ∷ []) c INIT
+
+-- R10: the instruction of a code from 16 on that takes an expression.
+abbrev pub onExpr : ℕ → Exp → Plain
+onExpr c x = getD (LOAD x ∷ AND x ∷ OR x ∷ EPUSH x ∷ []) (c - 16) INIT
+
+-- R10: the instruction of a code from 32 on that takes a variable.
+abbrev pub onVariable : ℕ → ℕ → Plain
+onVariable c b = getD (STORE b ∷ SET b ∷ RES b ∷ REDGE b ∷ FEDGE b ∷ []) (c - 32) INIT
+
+-- R10: the instruction of a code from 48 on that takes a label.
+abbrev pub onLabel : ℕ → ℕ → Instr
+onLabel c l = getD (JP l ∷ JPC l ∷ JS l ∷ JSC l ∷ []) (c - 48) END
 
 -- R10: where the codes of a form lie, and which instruction each is.
 abbrev Kinded : ℕ → Form → Type 0

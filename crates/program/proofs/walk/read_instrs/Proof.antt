@@ -1,0 +1,76 @@
+-- `read_instrs` meets its contract. The loop's invariant: what is left of the walk gives the answer of the whole.
+use Prim.Native.Nat.{_-_}
+use native.Mathlib.Omega.{arith}
+use borrow.Author.Needs.{needs}
+use Rattle.base.specs.Answers.{shapeOf}
+use Rattle.program.specs.Walk.{Reached, walk-start, walk-step, walk-refused, walk-done}
+use Rattle.program.proofs.walk.read_instrs.Statement.{statement}
+use Rattle.program.proofs.walk.read_instrs.Tie as tie
+
+abbrev Inv-loop : tie.InvT-loop
+Inv-loop file shape n at₀ i₀ at i = Reached file (shapeOf shape) n i at
+
+abbrev μ-loop : tie.MeasureT-loop
+μ-loop file shape n at₀ i₀ at i = n - i
+
+mul-at : tie.Need-mul-at Inv-loop μ-loop
+mul-at c = search needs
+
+add-at : tie.Need-add-at Inv-loop μ-loop
+add-at c = search needs
+
+loop-holds : tie.Need-loop-holds Inv-loop μ-loop
+loop-holds c = walk-start _ _ _
+
+read-instr-requires : tie.Need-read-instr-requires Inv-loop μ-loop
+read-instr-requires c κs = search needs
+
+enum-known-next : tie.Need-enum-known-next Inv-loop μ-loop
+enum-known-next c = search needs
+
+enum-known-x : tie.Need-enum-known-x Inv-loop μ-loop
+enum-known-x c = search needs
+
+returns : tie.Need-returns Inv-loop μ-loop
+returns c =
+    let a = c .before .before .before .before .before .before .before .args in
+    let s = c .before .before .before .before .before .loop in
+    walk-refused (a .file .now) (shapeOf (a .shape)) (a .n) (s .i) (s .at) (s .inv) (omega arith)
+    (c .before .before .before .read-instr .result) (c .before .before .before .read-instr .ensures)
+    (c .before .x .given .0 .0) (cc)
+
+add-i : tie.Need-add-i Inv-loop μ-loop
+add-i c = search needs
+
+loop-less : tie.Need-loop-less Inv-loop μ-loop
+loop-less c = search needs
+
+loop-again : tie.Need-loop-again Inv-loop μ-loop
+loop-again c =
+    let s = c .before .before .before .before .before .loop in
+    let r = c .before .before .before .read-instr in
+    walk-step _ _ _ (s .i) (s .at) (s .inv) (omega arith) (r .result) (r .ensures) _ (cc)
+
+returns-2 : tie.Need-returns-2 Inv-loop μ-loop
+returns-2 c =
+    let a = c .before .before .before .args in
+    let s = c .before .loop in
+    walk-done (a .file .now) (shapeOf (a .shape)) (a .n) (s .i) (s .at) (s .inv) (omega arith)
+
+pub read-instrs-spec : {M : Type 1} → statement M
+read-instrs-spec =
+    tie.close
+    (tie.spec
+    Inv-loop
+    μ-loop
+    mul-at
+    add-at
+    loop-holds
+    read-instr-requires
+    enum-known-next
+    enum-known-x
+    returns
+    add-i
+    loop-less
+    loop-again
+    returns-2)

@@ -1,0 +1,11 @@
+-- What the crate's contracts say, and the laws that their proofs cite.
+pub mod Contracts
+pub mod Chains
+pub mod Header
+pub mod Expr
+pub mod Body
+pub mod Walk
+pub mod Last
+pub mod Rest
+pub mod Check
+pub mod Codes
