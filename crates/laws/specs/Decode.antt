@@ -11,11 +11,12 @@ use borrow.Author.Tests.{eqb-true, leb-false, ltb-false, not-false}
 use Rattle.rules.specs.Verdict.{Verdict, granted}
 use Rattle.rules.specs.Lists.{numberAt}
 use Rattle.rules.specs.Edition.{Edition, countAt, headerEnd, mostInstrs}
-use Rattle.rules.specs.Shape.{Shape, vars, readHeader}
+use Rattle.rules.specs.Shape.{Shape, vars, shapeAt, readHeader}
 use Rattle.rules.specs.Expr.{Exp, Read, readExpr}
 use Rattle.rules.specs.Instr.{Plain, Instr, plain, END}
 use Rattle.rules.specs.ProgramFile.{Program, Form, alone, withExpr, withVar, withLabel, unknown, codes, formOf, isEnd}
 use Rattle.rules.specs.ProgramFile.{entryAt, bodyAt, readBody, readInstr, readInstrs, readProgram}
+use Rattle.laws.specs.Shape.{header-granted}
 use Rattle.laws.specs.Verdict.{Grants, grants, refuses, grants-of, grants-self, grants-map, grants-bind, grants-check, grants-within}
 
 -- What the bytes at p, whose code has a form, say of instruction x, number i of n.
@@ -76,8 +77,9 @@ instrs-stand e file sh n (suc k) i p h =
     at x xs f g zero l = rw add-zero f
     at x xs f g (suc j) l = rw (add-suc, ← suc-add i j) (g j (omega arith))
 
--- What is known of an accepted program's bytes: its count and contents are there, and every instruction stands where its entry leads.
+-- What is known of an accepted program's bytes: its shape, count and contents are there, and every instruction stands where its entry leads.
 pub record Decodes (e : Edition) (file : List ℕ) (P : Program) : Type 0 where
+  pub shaped : shapeAt e file ≡ P .shape
   pub counted : numberAt 2 file (countAt e) ≡ length (P .instrs)
   pub contents : entryAt e (length (P .instrs)) ≤ length file
   pub stands : (i : ℕ) → i < length (P .instrs) → Stands e file (P .shape) (length (P .instrs)) i (getD (P .instrs) i END)
@@ -94,7 +96,7 @@ decodes : (e : Edition) (file : List ℕ) → Grants (Decodes e file) (readProgr
 unfolding readProgram
 decodes e file =
     let n = numberAt 2 file (countAt e) in
-    grants-bind (grants-self (readHeader e (e .programMark) file)) λ sh _.
+    grants-bind (grants-self (readHeader e (e .programMark) file)) λ sh k.
     grants-within 1 n n mostInstrs _ _ _ λ _ _.
     grants-check (ltb (length file) (entryAt e n)) _ _ _ λ c.
     grants-bind (grants-self (readInstrs e file sh n n (entryAt e n))) λ xs q.
@@ -103,6 +105,7 @@ decodes e file =
     let count : length (xs .got) ≡ n = grants-of (instrs-count e file sh n n (entryAt e n)) q in
     let stand = grants-of (instrs-stand e file sh n n 0 (entryAt e n) (zero-add n)) q in
     grants (record {
+      shaped = header-granted e (e .programMark) file sh k .is;
       counted = sym count;
       contents = rw count (ltb-false (length file) (entryAt e n) c);
       stands = λ i h. rw count (rw zero-add at (stand i (omega arith)));

@@ -5,3 +5,5 @@ pub mod ValueLaws
 pub mod Run
 pub mod RunLaws
 pub mod ObeyLaws
+pub mod Scan
+pub mod ScanLaws

@@ -1,21 +1,17 @@
 -- Checking a program file: the header, then the rest; and the contract admits one answer only.
 use Prim.Native.Nat.{ℕ, _≤_}
 use mathlib.Core.Path.{_≡_, refl, sym, ap, _∙_}
-use mathlib.Core.Bool.{cond}
 use mathlib.Core.List.{List}
 use lib.ListN.{length}
-use lib.Dec.{eqb}
 use Rattle.rules.specs.Verdict.{Verdict, granted, refused}
 use Rattle.rules.specs.Edition.{old}
 use Rattle.rules.specs.Shape.{readHeader}
 use Rattle.rules.specs.ProgramFile.{readProgram}
 use Rattle.laws.specs.Shape.{header-granted}
-use Rattle.base.specs.Answers.{shapeOf, refusedBy, numberOf, placeOf}
+use Rattle.base.specs.Answers.{shapeOf, refusedBy}
+use Rattle.base.specs.Refusals.{refusalOf, refusal-back}
 use Rattle.base.specs.declared.shape.Shape.{Shape}
 use Rattle.base.specs.declared.refusal.Refusal.{Refusal}
-use Rattle.base.specs.declared.refusal.Refusal.the-variants.{EndsEarly, WrongMark, OutOfRange, Misplaced, UnknownCode}
-use Rattle.base.specs.declared.refusal.Refusal.the-variants.{BadExpression, NotWritable, BadLabel, LastNotEnd, NoRoom}
-use Rattle.base.specs.declared.refusal.Refusal.the-variants.{BudgetSpent, ShapesDiffer, BadRow, BadStorage}
 use Rattle.program.specs.declared.Checked.{Checked}
 use Rattle.program.specs.declared.Checked.the-variants.{Granted, Refused}
 use Rattle.program.specs.declared.header.Headed.{Headed}
@@ -37,39 +33,6 @@ module _ (file : List ℕ) (r : Headed) (h : headVerdict r ≡ readHeader old 1 
     pub check-rest : (k : Checked) → checkedVerdict k ≡ instrsOf file (shapeOf s) → checkedVerdict k ≡ checkOf file
     unfolding readProgram readRest
     check-rest k c = rw (← h, z) c
-
--- R46: the refusal with a number and a place.
-abbrev refusalOf : ℕ → ℕ → Refusal
-refusalOf n p =
-    cond (eqb n 1) (EndsEarly p)
-    (cond (eqb n 2) WrongMark
-    (cond (eqb n 3) (OutOfRange p)
-    (cond (eqb n 4) (Misplaced p)
-    (cond (eqb n 5) (UnknownCode p)
-    (cond (eqb n 6) (BadExpression p)
-    (cond (eqb n 7) (NotWritable p)
-    (cond (eqb n 8) (BadLabel p)
-    (cond (eqb n 9) (LastNotEnd p)
-    (cond (eqb n 10) (NoRoom p)
-    (cond (eqb n 11) (BudgetSpent (record { 0 = p }))
-    (cond (eqb n 12) ShapesDiffer
-    (cond (eqb n 13) (BadRow p) (BadStorage p)))))))))))))
-
-refusal-back : (x : Refusal) → refusalOf (numberOf x) (placeOf x) ≡ x
-refusal-back (EndsEarly p) = refl
-refusal-back WrongMark = refl
-refusal-back (OutOfRange p) = refl
-refusal-back (Misplaced p) = refl
-refusal-back (UnknownCode p) = refl
-refusal-back (BadExpression p) = refl
-refusal-back (NotWritable p) = refl
-refusal-back (BadLabel p) = refl
-refusal-back (LastNotEnd p) = refl
-refusal-back (NoRoom p) = refl
-refusal-back (BudgetSpent i) = refl
-refusal-back ShapesDiffer = refl
-refusal-back (BadRow p) = refl
-refusal-back (BadStorage p) = refl
 
 -- The answer that a verdict is.
 abbrev answerOf : Verdict (Unit {0}) → Checked

@@ -45,7 +45,7 @@ fn count(b: u8) -> u16
 }
 
 // R7: the shape that a header gives.
-fn shape_at(file: &[u8]) -> Shape
+pub fn shape_at(file: &[u8]) -> Shape
     requires { do ⌜ 7 ≤ (← ⟦file.len()⟧) ⌝ }
     ensures { λ r. ⌜ shapeOf r ≡ shapeAt old (now (file .entry)) ⌝ }
 {
