@@ -58,6 +58,10 @@ module _ (file : List ℕ) (sh : Shape) (n : ℕ) (s : List ℕ) (i : ℕ) (r : 
     most = omega (arith, limits .most, ap vars (r .shaped));
   }
 
+  -- R1, R2: there are at most 217 cells.
+  pub cells-most : length s ≤ 217
+  cells-most = omega (arith, r .stored .size, limits .shallow, limits .most)
+
   module _ (at : ℕ) (here : at ≡ bodyAt old file n i) where
     pub inside : at < length file
     inside = omega (arith, here, ap (λ m. bodyAt old file m i) (r .count), decodes .stands i (omega (arith, r .low, r .count)) .inside)

@@ -80,6 +80,10 @@ module _ (file : List ℕ) (sh : Shape) (n : ℕ) (s : List ℕ) (i : ℕ) (r : 
     stored = a;
   }
 
+  -- A run may be of a copy.
+  pub runnable-copy : (s₁ : List ℕ) → s₁ ≡ s → Runnable file sh n s₁ i
+  runnable-copy s₁ e = rw e r
+
   pub ends-spent : (k : Instr) → k .0 ≡ i → (left : ℕ) → left ≡ 0 → Ends file s i left (Spent k) s
   ends-spent k e left z = rw (← e, z) (record { comes = comes-spent (programIn file) s k; stored = r .stored })
 

@@ -100,14 +100,14 @@ module _ (file : List ℕ) (sh : Shape) (n : ℕ) (s : List ℕ) (r : Runnable f
       let w = all-cells (cells (programIn file .shape)) s (r .stored .size) (λ c _. r .stored .bits c) in
       rw (r .accepted, cells-passed (cells (programIn file .shape)) s w .is)
 
-  module _ (budget : ℕ) (t : List ℕ) where
-    pub scan-spent : (i : Instr) → Ends file s 0 budget (Spent i) t → Scans file s budget (Refused (BudgetSpent i)) s
-    scan-spent i d = refused-scan file s budget (BudgetSpent i) (scan-is budget ∙ d .comes 0 [])
+  module _ (budget : ℕ) (copy t : List ℕ) (same : copy ≡ s) where
+    pub scan-spent : (i : Instr) → Ends file copy 0 budget (Spent i) t → Scans file s budget (Refused (BudgetSpent i)) s
+    scan-spent i d = refused-scan file s budget (BudgetSpent i) (scan-is budget ∙ rw same at (d .comes) 0 [])
 
-    pub scan-stopped : (m : ℕ) → Ends file s 0 budget (Back m) t → Scans file s budget (Stopped (budget - m)) t
-    scan-stopped m d =
-        let e = scan-is budget ∙ scan-back (programIn file) s t budget m (d .comes) in
-        record { answer = rw e; leaves = rw e (sym (bytes-back t (d .stored .bits))) }
+    pub scan-stopped : (m : ℕ) → Ends file copy 0 budget (Back m) t → (u : List ℕ) → u ≡ t → Scans file s budget (Stopped (budget - m)) u
+    scan-stopped m d u e =
+        let is = scan-is budget ∙ scan-back (programIn file) s t budget m (rw same at (d .comes)) in
+        record { answer = rw is; leaves = rw (e, is) (sym (bytes-back t (d .stored .bits))) }
 
 -- R46, R52: two results that meet the contract for the same file, storage and budget are the same, with the same storage after.
 answerOf : Verdict ℕ → Scanned

@@ -1,0 +1,44 @@
+use Rattle.program.specs.declared.Checked.the-variants.{Granted, Refused}
+use mathlib.Core.Path.{_≡_}
+use Rattle.machine.specs.ScanLaws.{accepted-program, scan-unread}
+use native.Mathlib.Omega.{arith}
+use borrow.Author.Needs.{needs}
+use Rattle.machine.proofs.scan.Statement.{statement}
+use Rattle.machine.proofs.scan.Tie as tie
+use Rattle.machine.proofs.scan.Reads as reads
+use Rattle.machine.proofs.scan.Lts as lts
+use Rattle.machine.proofs.scan_accepted.Reads as scan-accepted-reads
+use Rattle.program.proofs.check_program.Reads as check-program-reads
+
+check-program-requires : tie.Need-check-program-requires
+check-program-requires c κs = search needs
+
+enum-told : tie.Need-enum-told
+enum-told c = search needs
+
+scan-accepted-requires : tie.Need-scan-accepted-requires
+scan-accepted-requires c κs = let e : c .before .before .before .check-program .result ≡ Granted = cc in accepted-program _ (rw e at (c .before .before .before .check-program .ensures))
+
+enum-known-x : tie.Need-enum-known-x
+enum-known-x c = search needs
+
+same-length : tie.Need-same-length
+same-length c = search needs
+
+returns : tie.Need-returns
+returns c = search needs
+
+returns-2 : tie.Need-returns-2
+returns-2 c = let e : c .before .before .before .check-program .result ≡ Refused (c .before .x .given .0 .0) = cc in scan-unread _ _ _ _ (rw e at (c .before .before .before .check-program .ensures))
+
+pub scan-spec : {M : Type 1} → statement M
+scan-spec =
+    tie.close
+    (tie.spec
+    check-program-requires
+    enum-told
+    scan-accepted-requires
+    enum-known-x
+    same-length
+    returns
+    returns-2)

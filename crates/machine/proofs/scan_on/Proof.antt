@@ -1,0 +1,65 @@
+use Rattle.machine.specs.declared.run.Ran.the-variants.{Back, Spent}
+use mathlib.Core.Path.{_≡_}
+use Rattle.machine.specs.RunLaws.{runnable-copy}
+use Rattle.machine.specs.ScanLaws.{scan-spent, scan-stopped}
+use native.Mathlib.Omega.{arith}
+use borrow.Author.Needs.{needs}
+use Rattle.machine.proofs.scan_on.Statement.{statement}
+use Rattle.machine.proofs.scan_on.Tie as tie
+use Rattle.machine.proofs.scan_on.Reads as reads
+use Rattle.machine.proofs.scan_on.Lts as lts
+use Rattle.machine.proofs.run.run_from.Reads as run-from-reads
+use Rattle.storage.proofs.copy_cells.Reads as copy-cells-reads
+
+copy-cells-requires : tie.Need-copy-cells-requires
+copy-cells-requires c κs = search needs
+
+run-from-requires : tie.Need-run-from-requires
+run-from-requires c κs = runnable-copy _ _ _ _ _ (c .before .before .before .before .before .before .before .before .before .pre .0) _ (c .before .before .before .copy-cells .ensures)
+
+enum-known-left : tie.Need-enum-known-left
+enum-known-left c = search needs
+
+copy-cells-requires-2 : tie.Need-copy-cells-requires-2
+copy-cells-requires-2 c κs = search needs
+
+sub-t24 : tie.Need-sub-t24
+sub-t24 c = let e : c .before .before .before .before .before .before .before .before .before .before .run-from .result ≡ Back (c .before .before .before .before .before .before .left .given .0 .0) = cc in omega (arith, (rw e at (c .before .before .before .before .before .before .before .before .before .before .run-from .ensures)) .comes .0)
+
+enum-known-i : tie.Need-enum-known-i
+enum-known-i c = search needs
+
+same-length : tie.Need-same-length
+same-length c = search needs
+
+same-length-2 : tie.Need-same-length-2
+same-length-2 c = search needs
+
+returns : tie.Need-returns
+returns c = let e : c .before .before .before .before .before .before .before .before .before .before .run-from .result ≡ Back (c .before .before .before .before .before .before .left .given .0 .0) = cc in scan-stopped _ _ _ _ (c .before .before .before .before .before .before .before .before .before .before .before .before .before .before .before .before .before .before .before .before .pre .0) _ _ _ (c .before .before .before .before .before .before .before .before .before .before .before .before .before .before .copy-cells .ensures) _ (rw e at (c .before .before .before .before .before .before .before .before .before .before .run-from .ensures)) _ (c .before .before .copy-cells2 .ensures)
+
+same-length-3 : tie.Need-same-length-3
+same-length-3 c = search needs
+
+same-length-4 : tie.Need-same-length-4
+same-length-4 c = search needs
+
+returns-2 : tie.Need-returns-2
+returns-2 c = let e : c .before .before .before .before .before .run-from .result ≡ Spent (c .before .i .given .0 .0) = cc in scan-spent _ _ _ _ (c .before .before .before .before .before .before .before .before .before .before .before .before .before .before .before .pre .0) _ _ _ (c .before .before .before .before .before .before .before .before .before .copy-cells .ensures) _ (rw e at (c .before .before .before .before .before .run-from .ensures))
+
+pub scan-on-spec : {M : Type 1} → statement M
+scan-on-spec =
+    tie.close
+    (tie.spec
+    copy-cells-requires
+    run-from-requires
+    enum-known-left
+    copy-cells-requires-2
+    sub-t24
+    enum-known-i
+    same-length
+    same-length-2
+    returns
+    same-length-3
+    same-length-4
+    returns-2)
