@@ -29,12 +29,12 @@ use Rattle.base.specs.Answers.{shapeOf}
 use Rattle.storage.specs.Cells.{bitsOf, byteOf, Storage, resetFrom, stored}
 use Rattle.storage.specs.Stores.{getD-bits, bits-back, performed-storage, perform-stored}
 use Rattle.machine.specs.declared.obey.Move.the-variants.{On, Call, End}
-use Rattle.machine.specs.declared.eval.Valued.{Valued}
+use Rattle.instruction.specs.declared.eval.Valued.{Valued}
 use Rattle.program.specs.Codes.{aloneOf, onExpr, onVariable, onLabel}
-use Rattle.machine.specs.Perform.{Fitting, onValue}
-use Rattle.machine.specs.PerformLaws.{value-stored}
+use Rattle.instruction.specs.Perform.{Fitting, onValue}
+use Rattle.instruction.specs.PerformLaws.{value-stored}
 use Rattle.program.specs.Codes.{Coded, coded}
-use Rattle.machine.specs.Value.{Reads, Readable, Values}
+use Rattle.instruction.specs.Value.{Reads, Readable, Values}
 use Rattle.machine.specs.Run.{programIn, instrAt, Performed, Runnable, Leads, Obeys}
 
 module _ (file : List ℕ) (sh : Shape) (n : ℕ) (s : List ℕ) (i : ℕ) (r : Runnable file sh n s i) where

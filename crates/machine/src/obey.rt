@@ -1,9 +1,9 @@
 // One instruction of an accepted program, decoded where its entry leads and performed.
-use crate::eval::value_at;
-use crate::perform::flag_op;
-use crate::perform::stack_op;
-use crate::perform::value_op;
-use crate::perform::variable_op;
+use instruction::eval::value_at;
+use instruction::perform::flag_op;
+use instruction::perform::stack_op;
+use instruction::perform::value_op;
+use instruction::perform::variable_op;
 use base::bytes::word;
 use base::kinds::Cell;
 use base::kinds::Instr;
@@ -17,6 +17,7 @@ ghost use Prim.Native.Nat.{_≤_, _<_};
 ghost use lib.ListN.{getD};
 ghost use Rattle.rules.specs.Edition.{old};
 ghost use Rattle.rules.specs.ProgramFile.{bodyAt};
+ghost use Rattle.program.specs.Contracts.{farthest};
 ghost use Rattle.machine.specs.Run.{Runnable, Performed, Obeys};
 
 // Where the machine goes after an instruction.
@@ -32,7 +33,7 @@ pub enum Move {
 // Performs the plain instruction i, whose code stands at a place (R16 to R19).
 fn perform_at(file: &[u8], shape: Shape, n: usize, s: &mut [u8], i: Instr, at: usize)
     requires { ⌜ Runnable (now file) shape n (now s) (i .0) ⌝ }
-    requires { ⌜ (at ≡ bodyAt old (now file) n (i .0)) × (at < 67000) ⌝ }
+    requires { ⌜ (at ≡ bodyAt old (now file) n (i .0)) × (at < farthest) ⌝ }
     requires { ⌜ (getD (now file) at 0 ≡ 10 → ⊥) × (getD (now file) at 0 < 48) ⌝ }
     ensures { λ _. ⌜ Performed (now (file .entry)) (now (s .entry)) (i .0) (now (s .exit)) ⌝ }
 {
@@ -56,7 +57,7 @@ fn perform_at(file: &[u8], shape: Shape, n: usize, s: &mut [u8], i: Instr, at: u
 // Where instruction i, a jump or a call whose code stands at a place, leads (R22, R23).
 fn jump_at(file: &[u8], shape: Shape, n: usize, s: &[u8], i: Instr, at: usize) -> Move
     requires { ⌜ Runnable (now file) shape n (now s) (i .0) ⌝ }
-    requires { ⌜ (at ≡ bodyAt old (now file) n (i .0)) × (at < 67000) × (48 ≤ getD (now file) at 0) ⌝ }
+    requires { ⌜ (at ≡ bodyAt old (now file) n (i .0)) × (at < farthest) × (48 ≤ getD (now file) at 0) ⌝ }
     ensures { λ r. ⌜ Obeys (now (file .entry)) (now (s .entry)) (i .0) r (now (s .entry)) ⌝ }
 {
     let code = file[at];

@@ -131,7 +131,8 @@ module _ (file : List ℕ) (sh : Shape) (n i p : ℕ) where
   pub ends-alone : Nothing ≡ followsOf (formOf codes (getD file p 0)) → Ends (To (p + 1))
   ends-alone e = found Nothing (To (p + 1)) e (rw add-one)
 
-  pub ends-expr : (r : Walked) → Expression ≡ followsOf (formOf codes (getD file p 0)) → Skips file (vars sh) (p + 65) (p + 1) r → Ends r
+  pub ends-expr : (r : Walked) → Expression ≡ followsOf (formOf codes (getD file p 0))
+      → Skips file (vars sh) (p + 65) (p + 1) r → Ends r
   ends-expr r e s =
       let q : p + 65 ≡ suc p + 64 = omega arith in
       found Expression r e (rw (add-one, q) at (s .is 64 (omega arith)))

@@ -9,9 +9,9 @@ use Rattle.rules.specs.Lists.{numberAt}
 use Rattle.rules.specs.Edition.{old, countAt, mostInstrs}
 use Rattle.rules.specs.Shape.{Shape}
 use Rattle.rules.specs.Expr.{Read, Announced, leaf, one, two, bad}
-use Rattle.rules.specs.Instr.{END}
-use Rattle.rules.specs.ProgramFile.{Program, Form, alone, withExpr, withVar, withLabel, unknown, writable, isEnd}
-use Rattle.rules.specs.ProgramFile.{entryAt, readInstrs, readProgram}
+use Rattle.rules.specs.Instr.{Instr, END}
+use Rattle.rules.specs.ProgramFile.{Program, Form, alone, withExpr, withVar, withLabel, unknown, codes, formOf, writable, isEnd}
+use Rattle.rules.specs.ProgramFile.{readBody, entryAt, bodyAt, readInstrs, readProgram}
 use Rattle.base.specs.Answers.{shapeOf, refusedBy}
 use Rattle.program.specs.declared.Checked.{Checked}
 use Rattle.program.specs.declared.Checked.the-variants as C
@@ -78,6 +78,10 @@ labelAt file n i q = do
   _ ← refuseIf (not (ltb i l && ltb l n)) 8 q
   granted (q + 2)
 
+-- R10, R48: the body of instruction i of n whose code stands at p.
+abbrev pub bodyRead : List ℕ → Shape → ℕ → ℕ → ℕ → Verdict (Read Instr)
+bodyRead file sh n i p = readBody old file sh n i p (formOf codes (getD file p 0))
+
 -- R8, R9: no body begins here or later: a header, the entries of 512 instructions, the largest entry.
 abbrev pub farthest : ℕ
 farthest = entryAt old mostInstrs + 65536
@@ -90,7 +94,7 @@ pub record Contents (file : List ℕ) (n : ℕ) : Type 0 where
 
 -- R9: where the body of the last of n instructions stands.
 abbrev pub lastAt : List ℕ → ℕ → ℕ
-lastAt file n = entryAt old n + numberAt 2 file (entryAt old (n - 1))
+lastAt file n = bodyAt old file n (n - 1)
 
 -- R9, R14, R48: n instructions that end at q close the file, and the last is END.
 unfoldable pub closed : List ℕ → ℕ → ℕ → Verdict (Unit {0})

@@ -91,8 +91,8 @@ module _ (file : List ℕ) (v stop p : ℕ) where
         skip-first One r e (λ k f. sym (operand r s k f)) (λ q z. omega (arith, s .on q z))
 
     -- R11: two operands follow, and the first of them ends.
-    pub skip-two : (x r : Walked) (a : ℕ) → Two ≡ operandsOf (announced v (getD file p 0)) → Skips file v stop (p + 1) x → x ≡ To a
-        → Skips file v stop a r → Skips file v stop p r
+    pub skip-two : (x r : Walked) (a : ℕ) → Two ≡ operandsOf (announced v (getD file p 0)) → Skips file v stop (p + 1) x
+        → x ≡ To a → Skips file v stop a r → Skips file v stop p r
     skip-two x r a e s z t =
         let m = s .on a z in
         skip-first Two r e

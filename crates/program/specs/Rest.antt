@@ -89,7 +89,8 @@ module _ (file : List ℕ) (n q : ℕ) where
     closed-end t = rw (le-ltb q (length file) h, ← e, eq-eqb (getD file (entryAt old n + w) 0) 10 t)
 
 -- R8, R48: what follows a header with that shape and the count n.
-module _ (file : List ℕ) (sh : Shape) (n : ℕ) (d : Bool) (e : n ≡ numberAt 2 file (countAt old)) (f : d ≡ (leb 1 n && leb n 512)) where
+module _ (file : List ℕ) (sh : Shape) (n : ℕ) (d : Bool) (e : n ≡ numberAt 2 file (countAt old))
+    (f : d ≡ (leb 1 n && leb n 512)) where
   pub rest-count : not d ≡ true → refused 3 5 ≡ instrsOf file sh
   unfolding readRest
   rest-count t = rw (← e, ← f, t)
@@ -115,7 +116,8 @@ module _ (file : List ℕ) (sh : Shape) (n : ℕ) (d : Bool) (e : n ≡ numberAt
         module _ (q : ℕ) (z : r ≡ To q) where
           pub rest-last : lastAt file n < length file
           rest-last =
-              last-there file sh n (readInstrs old file sh n n (entryAt old n)) q (closing file sh n (entryAt old n) (contents .some)) (sym (rw z at g))
+              let m = closing file sh n (entryAt old n) (contents .some) in
+              last-there file sh n (readInstrs old file sh n n (entryAt old n)) q m (sym (rw z at g))
 
           pub rest-closed : (k : Checked) → checkedVerdict k ≡ closed file n q → checkedVerdict k ≡ instrsOf file sh
           unfolding readRest

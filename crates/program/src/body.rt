@@ -10,11 +10,11 @@ ghost use mathlib.Core.Path.{_≡_};
 ghost use mathlib.Core.Bool.{_&&_};
 ghost use Prim.Native.Nat.{_≤_, _<_};
 ghost use lib.Dec.{ltb};
-ghost use lib.ListN.{getD, length};
+ghost use lib.ListN.{length};
 ghost use Rattle.rules.specs.Edition.{old};
-ghost use Rattle.rules.specs.ProgramFile.{codes, formOf, writable, entryAt, bodyAt, readBody};
+ghost use Rattle.rules.specs.ProgramFile.{codes, formOf, writable, entryAt, bodyAt};
 ghost use Rattle.base.specs.Answers.{shapeOf};
-ghost use Rattle.program.specs.Contracts.{walkedVerdict, ends, followsOf, variableAt, labelAt, farthest};
+ghost use Rattle.program.specs.Contracts.{walkedVerdict, ends, followsOf, variableAt, labelAt, bodyRead, farthest};
 
 // R10: what follows a code.
 pub enum Follows {
@@ -83,7 +83,7 @@ fn read_label(file: &[u8], n: usize, i: usize, at: usize) -> Walked
 // R10, R48: the body of instruction i of n at a place: its code is known (5), and then its operand.
 pub fn read_body(file: &[u8], shape: Shape, n: usize, i: usize, at: usize) -> Walked
     requires { do ⌜ (at < (← ⟦file.len()⟧)) × (at < farthest) ⌝ }
-    ensures { λ r. ⌜ walkedVerdict r ≡ ends (readBody old (now (file .entry)) (shapeOf shape) n i at (formOf codes (getD (now (file .entry)) at 0))) ⌝ }
+    ensures { λ r. ⌜ walkedVerdict r ≡ ends (bodyRead (now (file .entry)) (shapeOf shape) n i at) ⌝ }
 {
     match asked_by(file[at]) {
         Follows::Nothing => Walked::To(at + 1),
@@ -97,7 +97,7 @@ pub fn read_body(file: &[u8], shape: Shape, n: usize, i: usize, at: usize) -> Wa
 // R9: where the body of instruction i of n stands, by its entry; nothing before it is read.
 pub fn body_at(file: &[u8], n: usize, i: Instr) -> usize
     requires { ⌜ (i .0 < n) × (n ≤ 512) × (entryAt old n ≤ length (now file)) ⌝ }
-    ensures { λ r. ⌜ (r ≡ bodyAt old (now (file .entry)) n (i .0)) × (r < 67000) ⌝ }
+    ensures { λ r. ⌜ (r ≡ bodyAt old (now (file .entry)) n (i .0)) × (r < farthest) ⌝ }
 {
     7 + 2 * n + word(file, 7 + 2 * (i.0 as usize))
 }

@@ -3,15 +3,13 @@ use crate::Checked;
 use crate::body::read_body;
 use crate::expr::Walked;
 use crate::header::within;
-use base::bytes::wide;
 use base::bytes::word;
 use base::refusal::Refusal;
 use base::shape::Shape;
 ghost use mathlib.Core.Path.{_≡_};
-ghost use Prim.Native.Nat.{_+_, _*_, _-_, _≤_, _<_};
+ghost use Prim.Native.Nat.{_≤_, _<_};
 ghost use lib.ListN.{length};
 ghost use Rattle.rules.specs.Edition.{old};
-ghost use Rattle.rules.specs.Lists.{numberAt};
 ghost use Rattle.rules.specs.ProgramFile.{entryAt, readInstr, readInstrs};
 ghost use Rattle.base.specs.Answers.{shapeOf};
 ghost use Rattle.program.specs.Contracts.{checkedVerdict, walkedVerdict, ends, Contents, lastAt, closed, instrsOf};
@@ -68,7 +66,7 @@ fn check_end(file: &[u8], n: usize, at: usize) -> Checked
     Checked::Granted
 }
 
-// R8, R48: what follows a header with that shape: the count is 1 to 512 (3), the contents are whole (1), and then the instructions.
+// R8, R48: what follows a header with that shape: the count is 1 to 512 (3), the contents are whole (1), then the instructions.
 pub fn check_instrs(file: &[u8], shape: Shape) -> Checked
     requires { do ⌜ 7 ≤ (← ⟦file.len()⟧) ⌝ }
     ensures { λ r. ⌜ checkedVerdict r ≡ instrsOf (now (file .entry)) (shapeOf shape) ⌝ }

@@ -14,7 +14,7 @@ check-instrs-requires : tie.Need-check-instrs-requires
 check-instrs-requires c κs =
     let h = c .before .before .before .read-header in
     check-long (c .before .before .before .before .before .args .file .now) (h .result) (h .ensures)
-    (c .before .shape .given .0 .0) (cc)
+    (c .before .shape .given .0 .0) (c .before .shape .given .1)
 
 enum-known-x : tie.Need-enum-known-x
 enum-known-x c = search needs
@@ -23,13 +23,14 @@ returns : tie.Need-returns
 returns c =
     let h = c .before .before .before .before .read-header in
     check-rest (c .before .before .before .before .before .before .args .file .now) (h .result) (h .ensures)
-    (c .before .before .shape .given .0 .0) (cc) (c .check-instrs .result) (c .check-instrs .ensures)
+    (c .before .before .shape .given .0 .0) (c .before .before .shape .given .1)
+    (c .check-instrs .result) (c .check-instrs .ensures)
 
 returns-2 : tie.Need-returns-2
 returns-2 c =
     let h = c .before .before .before .read-header in
     check-refused (c .before .before .before .before .before .args .file .now) (h .result) (h .ensures)
-    (c .before .x .given .0 .0) (cc)
+    (c .before .x .given .0 .0) (c .before .x .given .1)
 
 pub check-program-spec : {M : Type 1} → statement M
 check-program-spec =

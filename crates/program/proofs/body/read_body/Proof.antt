@@ -1,4 +1,5 @@
 -- `read_body` meets its contract: a law for each thing that a code asks for.
+use mathlib.Core.Path.{sym, _∙_}
 use borrow.Author.Needs.{needs}
 use Rattle.base.specs.Answers.{shapeOf}
 use Rattle.program.specs.Body.{ends-alone, ends-expr, ends-variable, ends-label, ends-unknown}
@@ -56,30 +57,35 @@ enum-told-5 c = search needs
 returns : tie.Need-returns
 returns c =
     let a = c .before .before .before .before .before .args in
-    ends-alone (a .file .now) (shapeOf (a .shape)) (a .n) (a .i) (a .at) (cc)
+    ends-alone (a .file .now) (shapeOf (a .shape)) (a .n) (a .i) (a .at)
+    (sym (c .enum-told .given .1) ∙ c .before .before .asked-by .ensures)
 
 returns-2 : tie.Need-returns-2
 returns-2 c =
     let a = c .before .before .before .before .before .before .before .args in
-    ends-expr (a .file .now) (shapeOf (a .shape)) (a .n) (a .i) (a .at) (c .read-expr .result) (cc)
+    ends-expr (a .file .now) (shapeOf (a .shape)) (a .n) (a .i) (a .at)
+    (c .read-expr .result) (sym (c .before .before .enum-told2 .given .1) ∙ c .before .before .before .before .asked-by .ensures)
     (rw (c .before .vars .ensures) at (c .read-expr .ensures))
 
 returns-3 : tie.Need-returns-3
 returns-3 c =
     let a = c .before .before .before .before .before .before .args in
-    ends-variable (a .file .now) (shapeOf (a .shape)) (a .n) (a .i) (a .at) (c .read-variable .result) (cc)
+    ends-variable (a .file .now) (shapeOf (a .shape)) (a .n) (a .i) (a .at)
+    (c .read-variable .result) (sym (c .before .enum-told3 .given .1) ∙ c .before .before .before .asked-by .ensures)
     (c .read-variable .ensures)
 
 returns-4 : tie.Need-returns-4
 returns-4 c =
     let a = c .before .before .before .before .before .before .args in
-    ends-label (a .file .now) (shapeOf (a .shape)) (a .n) (a .i) (a .at) (c .read-label .result) (cc)
+    ends-label (a .file .now) (shapeOf (a .shape)) (a .n) (a .i) (a .at)
+    (c .read-label .result) (sym (c .before .enum-told4 .given .1) ∙ c .before .before .before .asked-by .ensures)
     (c .read-label .ensures)
 
 returns-5 : tie.Need-returns-5
 returns-5 c =
     let a = c .before .before .before .before .before .args in
-    ends-unknown (a .file .now) (shapeOf (a .shape)) (a .n) (a .i) (a .at) (cc)
+    ends-unknown (a .file .now) (shapeOf (a .shape)) (a .n) (a .i) (a .at)
+    (sym (c .enum-told5 .given .1) ∙ c .before .before .asked-by .ensures)
 
 pub read-body-spec : {M : Type 1} → statement M
 read-body-spec =

@@ -1,5 +1,6 @@
 -- `read_expr` meets its contract: a law for each answer. The measure is what is left up to `stop`, which each operand lowers.
 use Prim.Native.Nat.{ℕ, _-_, _<_}
+use mathlib.Core.Path.{sym, _∙_}
 use native.Mathlib.Omega.{arith}
 use borrow.Author.Needs.{needs}
 use borrow.Fn.Kinds.{In}
@@ -23,113 +24,150 @@ read-expr-below t =
     and 1 read-expr-kinds.ps (falls 1 read-expr-kinds.ps _<_ μ-read-expr t) read-expr.Pre
 
 read-expr-returns : (t : ℕ)
-    → read-expr-lts.Need-returns (announce-reads.Asked, announce-reads.Learnt, read-expr-below t, read-expr.Post)
+    → read-expr-lts.Need-returns
+    (announce-reads.Asked, announce-reads.Learnt, read-expr-below t, read-expr.Post)
     (read-expr-at t) read-expr.Post
-read-expr-returns t c = skip-stop _ _ _ _ (omega arith)
+read-expr-returns t c = skip-stop _ _ _ _ (c .if1 .taken)
 
 read-expr-returns-2 : (t : ℕ)
-    → read-expr-lts.Need-returns-2 (announce-reads.Asked, announce-reads.Learnt, read-expr-below t, read-expr.Post)
+    → read-expr-lts.Need-returns-2
+    (announce-reads.Asked, announce-reads.Learnt, read-expr-below t, read-expr.Post)
     (read-expr-at t) read-expr.Post
-read-expr-returns-2 t c = skip-short _ _ _ _ (omega arith) (omega arith)
+read-expr-returns-2 t c = skip-short _ _ _ _ (c .before .if1 .left) (c .if2 .taken)
 
 read-expr-shared-slice-read-announce : (t : ℕ)
-    → read-expr-lts.Need-shared-slice-read-announce (announce-reads.Asked, announce-reads.Learnt, read-expr-below t, read-expr.Post)
+    → read-expr-lts.Need-shared-slice-read-announce
+    (announce-reads.Asked, announce-reads.Learnt, read-expr-below t, read-expr.Post)
     (read-expr-at t) read-expr.Post
 read-expr-shared-slice-read-announce t c = search needs
 
 read-expr-announce-requires : (t : ℕ)
-    → read-expr-lts.Need-announce-requires (announce-reads.Asked, announce-reads.Learnt, read-expr-below t, read-expr.Post)
+    → read-expr-lts.Need-announce-requires
+    (announce-reads.Asked, announce-reads.Learnt, read-expr-below t, read-expr.Post)
     (read-expr-at t) read-expr.Post
 read-expr-announce-requires t c κs = search needs
 
 read-expr-enum-told : (t : ℕ)
-    → read-expr-lts.Need-enum-told (announce-reads.Asked, announce-reads.Learnt, read-expr-below t, read-expr.Post)
+    → read-expr-lts.Need-enum-told
+    (announce-reads.Asked, announce-reads.Learnt, read-expr-below t, read-expr.Post)
     (read-expr-at t) read-expr.Post
 read-expr-enum-told t c = search needs
 
 read-expr-add-t16 : (t : ℕ)
-    → read-expr-lts.Need-add-t16 (announce-reads.Asked, announce-reads.Learnt, read-expr-below t, read-expr.Post)
+    → read-expr-lts.Need-add-t16
+    (announce-reads.Asked, announce-reads.Learnt, read-expr-below t, read-expr.Post)
     (read-expr-at t) read-expr.Post
 read-expr-add-t16 t c = search needs
 
 read-expr-enum-told-2 : (t : ℕ)
-    → read-expr-lts.Need-enum-told-2 (announce-reads.Asked, announce-reads.Learnt, read-expr-below t, read-expr.Post)
+    → read-expr-lts.Need-enum-told-2
+    (announce-reads.Asked, announce-reads.Learnt, read-expr-below t, read-expr.Post)
     (read-expr-at t) read-expr.Post
 read-expr-enum-told-2 t c = search needs
 
 read-expr-add-read-expr : (t : ℕ)
-    → read-expr-lts.Need-add-read-expr (announce-reads.Asked, announce-reads.Learnt, read-expr-below t, read-expr.Post)
+    → read-expr-lts.Need-add-read-expr
+    (announce-reads.Asked, announce-reads.Learnt, read-expr-below t, read-expr.Post)
     (read-expr-at t) read-expr.Post
 read-expr-add-read-expr t c = search needs
 
 read-expr-read-expr-requires : (t : ℕ)
-    → read-expr-lts.Need-read-expr-requires (announce-reads.Asked, announce-reads.Learnt, read-expr-below t, read-expr.Post)
+    → read-expr-lts.Need-read-expr-requires
+    (announce-reads.Asked, announce-reads.Learnt, read-expr-below t, read-expr.Post)
     (read-expr-at t) read-expr.Post
 read-expr-read-expr-requires t c κs = search needs
 
 read-expr-enum-told-3 : (t : ℕ)
-    → read-expr-lts.Need-enum-told-3 (announce-reads.Asked, announce-reads.Learnt, read-expr-below t, read-expr.Post)
+    → read-expr-lts.Need-enum-told-3
+    (announce-reads.Asked, announce-reads.Learnt, read-expr-below t, read-expr.Post)
     (read-expr-at t) read-expr.Post
 read-expr-enum-told-3 t c = search needs
 
 read-expr-add-read-expr-2 : (t : ℕ)
-    → read-expr-lts.Need-add-read-expr-2 (announce-reads.Asked, announce-reads.Learnt, read-expr-below t, read-expr.Post)
+    → read-expr-lts.Need-add-read-expr-2
+    (announce-reads.Asked, announce-reads.Learnt, read-expr-below t, read-expr.Post)
     (read-expr-at t) read-expr.Post
 read-expr-add-read-expr-2 t c = search needs
 
 read-expr-read-expr-requires-2 : (t : ℕ)
-    → read-expr-lts.Need-read-expr-requires-2 (announce-reads.Asked, announce-reads.Learnt, read-expr-below t, read-expr.Post)
+    → read-expr-lts.Need-read-expr-requires-2
+    (announce-reads.Asked, announce-reads.Learnt, read-expr-below t, read-expr.Post)
     (read-expr-at t) read-expr.Post
 read-expr-read-expr-requires-2 t c κs = search needs
 
 read-expr-enum-known-next : (t : ℕ)
-    → read-expr-lts.Need-enum-known-next (announce-reads.Asked, announce-reads.Learnt, read-expr-below t, read-expr.Post)
+    → read-expr-lts.Need-enum-known-next
+    (announce-reads.Asked, announce-reads.Learnt, read-expr-below t, read-expr.Post)
     (read-expr-at t) read-expr.Post
 read-expr-enum-known-next t c = search needs
 
 read-expr-read-expr-requires-3 : (t : ℕ)
-    → read-expr-lts.Need-read-expr-requires-3 (announce-reads.Asked, announce-reads.Learnt, read-expr-below t, read-expr.Post)
+    → read-expr-lts.Need-read-expr-requires-3
+    (announce-reads.Asked, announce-reads.Learnt, read-expr-below t, read-expr.Post)
     (read-expr-at t) read-expr.Post
 read-expr-read-expr-requires-3 t c κs =
-    omega (arith, c .before .before .before .read-expr2 .ensures .on (c .before .next .given .0 .0) (cc))
+    omega (arith, c .before .before .before .read-expr2 .ensures .on (c .before .next .given .0 .0) (c .before .next .given .1))
 
 read-expr-enum-known-x : (t : ℕ)
-    → read-expr-lts.Need-enum-known-x (announce-reads.Asked, announce-reads.Learnt, read-expr-below t, read-expr.Post)
+    → read-expr-lts.Need-enum-known-x
+    (announce-reads.Asked, announce-reads.Learnt, read-expr-below t, read-expr.Post)
     (read-expr-at t) read-expr.Post
 read-expr-enum-known-x t c = search needs
 
 read-expr-enum-told-4 : (t : ℕ)
-    → read-expr-lts.Need-enum-told-4 (announce-reads.Asked, announce-reads.Learnt, read-expr-below t, read-expr.Post)
+    → read-expr-lts.Need-enum-told-4
+    (announce-reads.Asked, announce-reads.Learnt, read-expr-below t, read-expr.Post)
     (read-expr-at t) read-expr.Post
 read-expr-enum-told-4 t c = search needs
 
 read-expr-returns-3 : (t : ℕ)
-    → read-expr-lts.Need-returns-3 (announce-reads.Asked, announce-reads.Learnt, read-expr-below t, read-expr.Post)
+    → read-expr-lts.Need-returns-3
+    (announce-reads.Asked, announce-reads.Learnt, read-expr-below t, read-expr.Post)
     (read-expr-at t) read-expr.Post
-read-expr-returns-3 t c = skip-leaf _ _ _ _ (omega arith) (omega arith) (cc)
+read-expr-returns-3 t c =
+    let b = c .before .before .before .before in
+    skip-leaf _ _ _ _ (b .before .if1 .left) (b .if2 .left)
+    (sym (c .enum-told .given .1) ∙ c .before .before .announce .ensures)
 
 read-expr-returns-4 : (t : ℕ)
-    → read-expr-lts.Need-returns-4 (announce-reads.Asked, announce-reads.Learnt, read-expr-below t, read-expr.Post)
+    → read-expr-lts.Need-returns-4
+    (announce-reads.Asked, announce-reads.Learnt, read-expr-below t, read-expr.Post)
     (read-expr-at t) read-expr.Post
-read-expr-returns-4 t c = skip-one _ _ _ _ (omega arith) (omega arith) _ (cc) (c .read-expr .ensures)
+read-expr-returns-4 t c =
+    let b = c .before .before .before .before .before in
+    skip-one _ _ _ _ (b .before .if1 .left) (b .if2 .left) _
+    (sym (c .before .enum-told2 .given .1) ∙ c .before .before .before .announce .ensures) (c .read-expr .ensures)
 
 read-expr-returns-5 : (t : ℕ)
-    → read-expr-lts.Need-returns-5 (announce-reads.Asked, announce-reads.Learnt, read-expr-below t, read-expr.Post)
+    → read-expr-lts.Need-returns-5
+    (announce-reads.Asked, announce-reads.Learnt, read-expr-below t, read-expr.Post)
     (read-expr-at t) read-expr.Post
 read-expr-returns-5 t c =
-    skip-two _ _ _ _ (omega arith) (omega arith) _ _ _ (cc) (c .before .before .before .before .read-expr2 .ensures) (cc)
-    (c .read-expr3 .ensures)
+    let b = c .before .before .before .before .before .before .before .before .before in
+    let e = c .before .before .before .before .before .enum-told3 .given .1 in
+    skip-two _ _ _ _ (b .before .if1 .left) (b .if2 .left) _ _ _
+    (sym e ∙ c .before .before .before .before .before .before .before .announce .ensures)
+    (c .before .before .before .before .read-expr2 .ensures) (c .before .before .next .given .1) (c .read-expr3 .ensures)
 
 read-expr-returns-6 : (t : ℕ)
-    → read-expr-lts.Need-returns-6 (announce-reads.Asked, announce-reads.Learnt, read-expr-below t, read-expr.Post)
+    → read-expr-lts.Need-returns-6
+    (announce-reads.Asked, announce-reads.Learnt, read-expr-below t, read-expr.Post)
     (read-expr-at t) read-expr.Post
 read-expr-returns-6 t c =
-    skip-refused _ _ _ _ (omega arith) (omega arith) _ _ (cc) (c .before .before .before .read-expr2 .ensures) (cc)
+    let b = c .before .before .before .before .before .before .before .before in
+    let e = c .before .before .before .before .enum-told3 .given .1 in
+    skip-refused _ _ _ _ (b .before .if1 .left) (b .if2 .left) _ _
+    (sym e ∙ c .before .before .before .before .before .before .announce .ensures)
+    (c .before .before .before .read-expr2 .ensures) (c .before .x .given .1)
 
 read-expr-returns-7 : (t : ℕ)
-    → read-expr-lts.Need-returns-7 (announce-reads.Asked, announce-reads.Learnt, read-expr-below t, read-expr.Post)
+    → read-expr-lts.Need-returns-7
+    (announce-reads.Asked, announce-reads.Learnt, read-expr-below t, read-expr.Post)
     (read-expr-at t) read-expr.Post
-read-expr-returns-7 t c = skip-bad _ _ _ _ (omega arith) (omega arith) (cc)
+read-expr-returns-7 t c =
+    let b = c .before .before .before .before in
+    skip-bad _ _ _ _ (b .before .if1 .left) (b .if2 .left)
+    (sym (c .enum-told4 .given .1) ∙ c .before .before .announce .ensures)
 
 pub +read-expr-spec : {M : Type 1} → statement M
 +read-expr-spec =

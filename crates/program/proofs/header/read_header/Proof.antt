@@ -30,14 +30,14 @@ returns-3 : tie.Need-returns-3
 returns-3 c =
     let b = c .before .before .before in
     header-read _ _ (omega arith) (b .before .if2 .left) _ (b .shape-at .ensures) (c .before .before .check-shape .result)
-    (c .before .before .check-shape .ensures) (cc)
+    (c .before .before .check-shape .ensures) (c .enum-told .given .1)
 
 returns-4 : tie.Need-returns-4
 returns-4 c =
     let k = c .before .before .before .check-shape in
     let b = c .before .before .before .before in
     header-refused _ _ (omega arith) (b .before .if2 .left) _ (b .shape-at .ensures) (k .result) (k .ensures)
-    (c .before .x .given .0 .0) (cc)
+    (c .before .x .given .0 .0) (c .before .x .given .1)
 
 pub read-header-spec : {M : Type 1} → statement M
 read-header-spec =

@@ -57,7 +57,7 @@ check-end-requires c κs =
     let k = contents (a .file .now) (shapeOf (a .shape)) (w .result) (d .result) (w .ensures .0) (d .ensures) t l in (
       k,
       rest-last (a .file .now) (shapeOf (a .shape)) (w .result) (d .result) (w .ensures .0) (d .ensures) t l (r .result)
-          (r .ensures) (c .before .at .given .0 .0) (cc),
+          (r .ensures) (c .before .at .given .0 .0) (c .before .at .given .1),
     )
 
 enum-known-x : tie.Need-enum-known-x
@@ -71,7 +71,7 @@ returns-3 c =
     rest-closed (a .file .now) (shapeOf (a .shape)) (w .result) (d .result) (w .ensures .0) (d .ensures)
     (c .before .before .before .before .before .before .if1 .left) (omega arith)
     (c .before .before .before .before .read-instrs .result) (c .before .before .before .before .read-instrs .ensures)
-    (c .before .before .at .given .0 .0) (cc) (c .check-end .result) (c .check-end .ensures)
+    (c .before .before .at .given .0 .0) (c .before .before .at .given .1) (c .check-end .result) (c .check-end .ensures)
 
 returns-4 : tie.Need-returns-4
 returns-4 c =
@@ -80,7 +80,7 @@ returns-4 c =
     let d = c .before .before .before .before .before .before .within in
     rest-refused (a .file .now) (shapeOf (a .shape)) (w .result) (d .result) (w .ensures .0) (d .ensures)
     (c .before .before .before .before .before .if1 .left) (omega arith) (c .before .before .before .read-instrs .result)
-    (c .before .before .before .read-instrs .ensures) (c .before .x .given .0 .0) (cc)
+    (c .before .before .before .read-instrs .ensures) (c .before .x .given .0 .0) (c .before .x .given .1)
 
 pub check-instrs-spec : {M : Type 1} → statement M
 check-instrs-spec =

@@ -37,7 +37,7 @@ returns c =
     let s = c .before .before .before .before .before .loop in
     walk-refused (a .file .now) (shapeOf (a .shape)) (a .n) (s .i) (s .at) (s .inv) (omega arith)
     (c .before .before .before .read-instr .result) (c .before .before .before .read-instr .ensures)
-    (c .before .x .given .0 .0) (cc)
+    (c .before .x .given .0 .0) (c .before .x .given .1)
 
 add-i : tie.Need-add-i Inv-loop μ-loop
 add-i c = search needs
@@ -49,7 +49,7 @@ loop-again : tie.Need-loop-again Inv-loop μ-loop
 loop-again c =
     let s = c .before .before .before .before .before .loop in
     let r = c .before .before .before .read-instr in
-    walk-step _ _ _ (s .i) (s .at) (s .inv) (omega arith) (r .result) (r .ensures) _ (cc)
+    walk-step _ _ _ (s .i) (s .at) (s .inv) (omega arith) (r .result) (r .ensures) _ (c .before .next .given .1)
 
 returns-2 : tie.Need-returns-2 Inv-loop μ-loop
 returns-2 c =

@@ -1,14 +1,14 @@
 use Rattle.base.specs.Answers.{shapeOf}
 use mathlib.Core.Path.{_≡_}
-use Rattle.machine.specs.PerformLaws.{op-push, op-pop, op-drop, op-dup, op-fswp, op-eswp}
+use Rattle.instruction.specs.PerformLaws.{op-push, op-pop, op-drop, op-dup, op-fswp, op-eswp}
 use lib.ListN.{set}
 use mathlib.Core.Path.{ap, _∙_}
 use native.Mathlib.Omega.{arith}
 use borrow.Author.Needs.{needs}
-use Rattle.machine.proofs.perform.stack_op.Statement.{statement}
-use Rattle.machine.proofs.perform.stack_op.Tie as tie
-use Rattle.machine.proofs.perform.stack_op.Reads as reads
-use Rattle.machine.proofs.perform.stack_op.Lts as lts
+use Rattle.instruction.proofs.perform.stack_op.Statement.{statement}
+use Rattle.instruction.proofs.perform.stack_op.Tie as tie
+use Rattle.instruction.proofs.perform.stack_op.Reads as reads
+use Rattle.instruction.proofs.perform.stack_op.Lts as lts
 use Rattle.base.proofs.shape.Shape.flag.Reads as flag-reads
 use Rattle.storage.proofs.cell_at.Reads as cell-at-reads
 use Rattle.storage.proofs.drop_top.Reads as drop-top-reads

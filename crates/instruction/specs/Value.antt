@@ -9,7 +9,7 @@ use Rattle.rules.specs.Verdict.{granted}
 use Rattle.rules.specs.Expr.{Exp, Read, eval, readExpr}
 use Rattle.rules.specs.Operations.{bit}
 use Rattle.storage.specs.Cells.{bitsOf, Bits}
-use Rattle.machine.specs.declared.eval.Valued.{Valued}
+use Rattle.instruction.specs.declared.eval.Valued.{Valued}
 
 -- The expression x stands at p and ends by `stop`.
 pub record Reads (file : List ℕ) (v stop p : ℕ) (x : Read Exp) : Type 0 where

@@ -8,7 +8,7 @@ use lib.ListN.{getD, set}
 use Rattle.rules.specs.Shape.{Shape, flag}
 use Rattle.storage.specs.Cells.{byteOf, pushOn, dropTop, resetFrom, stored}
 use Rattle.program.specs.Codes.{aloneOf, onExpr, onVariable}
-use Rattle.machine.specs.Perform.{onValue}
+use Rattle.instruction.specs.Perform.{onValue}
 
 pub op-init : (sh : Shape) (s : List ℕ) (code f : ℕ) → code ≡ 0 → f ≡ flag sh
     → resetFrom f s ≡ stored sh s (aloneOf code)

@@ -1,10 +1,10 @@
 use borrow.Author.Tests.{eq-eqb, ne-eqb}
 use native.Mathlib.Omega.{arith}
 use borrow.Author.Needs.{needs}
-use Rattle.machine.proofs.eval.join.Statement.{statement}
-use Rattle.machine.proofs.eval.join.Tie as tie
-use Rattle.machine.proofs.eval.join.Reads as reads
-use Rattle.machine.proofs.eval.join.Lts as lts
+use Rattle.instruction.proofs.eval.join.Statement.{statement}
+use Rattle.instruction.proofs.eval.join.Tie as tie
+use Rattle.instruction.proofs.eval.join.Reads as reads
+use Rattle.instruction.proofs.eval.join.Lts as lts
 
 returns : tie.Need-returns
 returns c = simp (eq-eqb _ _ (c .before .if1 .taken), eq-eqb _ _ (c .if2 .taken))

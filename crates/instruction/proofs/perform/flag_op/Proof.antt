@@ -1,16 +1,16 @@
 use Rattle.base.specs.Answers.{shapeOf}
 use mathlib.Core.Path.{_≡_}
-use Rattle.machine.specs.PerformLaws.{op-init, op-not, op-tand, op-tor}
+use Rattle.instruction.specs.PerformLaws.{op-init, op-not, op-tand, op-tor}
 use mathlib.Core.Path.{_∙_}
 use native.Mathlib.Omega.{arith}
 use borrow.Author.Needs.{needs}
-use Rattle.machine.proofs.perform.flag_op.Statement.{statement}
-use Rattle.machine.proofs.perform.flag_op.Tie as tie
-use Rattle.machine.proofs.perform.flag_op.Reads as reads
-use Rattle.machine.proofs.perform.flag_op.Lts as lts
+use Rattle.instruction.proofs.perform.flag_op.Statement.{statement}
+use Rattle.instruction.proofs.perform.flag_op.Tie as tie
+use Rattle.instruction.proofs.perform.flag_op.Reads as reads
+use Rattle.instruction.proofs.perform.flag_op.Lts as lts
 use Rattle.base.proofs.shape.Shape.flag.Reads as flag-reads
-use Rattle.machine.proofs.bits.both.Reads as both-reads
-use Rattle.machine.proofs.bits.either.Reads as either-reads
+use Rattle.instruction.proofs.bits.both.Reads as both-reads
+use Rattle.instruction.proofs.bits.either.Reads as either-reads
 use Rattle.storage.proofs.cell_at.Reads as cell-at-reads
 use Rattle.storage.proofs.put_cell.Reads as put-cell-reads
 use Rattle.storage.proofs.reset.Reads as reset-reads

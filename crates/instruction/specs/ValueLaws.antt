@@ -16,8 +16,8 @@ use Rattle.rules.specs.Operations.{bit}
 use Rattle.laws.specs.Verdict.{bind-granted, check-granted, Grants, grants, refuses, grants-of, grants-self, grants-bind, grants-check}
 use Rattle.storage.specs.Cells.{bitsOf}
 use Rattle.storage.specs.Stores.{bit-eqb, bit-not, cell-byte}
-use Rattle.machine.specs.declared.eval.Valued.{Valued}
-use Rattle.machine.specs.Value.{Reads, Readable, Values, joined}
+use Rattle.instruction.specs.declared.eval.Valued.{Valued}
+use Rattle.instruction.specs.Value.{Reads, Readable, Values, joined}
 
 -- What stands at p, by what its first byte announces.
 abbrev Parts : List ℕ → ℕ → ℕ → ℕ → Read Exp → Announced → Type 0

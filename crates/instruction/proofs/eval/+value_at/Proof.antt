@@ -1,17 +1,17 @@
 use native.Mathlib.Omega.{arith}
-use Rattle.machine.specs.ValueLaws.{read-before, read-inside, read-variable, value-variable, value-constant, read-operand, value-not, read-second, second-later, value-two}
+use Rattle.instruction.specs.ValueLaws.{read-before, read-inside, read-variable, value-variable, value-constant, read-operand, value-not, read-second, second-later, value-two}
 use borrow.Author.Needs.{needs}
 use Prim.Native.Nat.{ℕ, _-_, _<_}
 use lib.ListN.{getD}
 use borrow.Fn.Kinds.{In}
 use borrow.Fn.PlainCycle.{Measures, is, falls, and}
-use Rattle.machine.proofs.eval.value_at.Reads as value-at
-use Rattle.machine.proofs.eval.value_at.Kinds as value-at-kinds
-use Rattle.machine.proofs.eval.+value_at.Lts-value_at as value-at-lts
+use Rattle.instruction.proofs.eval.value_at.Reads as value-at
+use Rattle.instruction.proofs.eval.value_at.Kinds as value-at-kinds
+use Rattle.instruction.proofs.eval.+value_at.Lts-value_at as value-at-lts
 use Rattle.base.proofs.bytes.wide.Reads as wide-reads
-use Rattle.machine.proofs.eval.join.Reads as join-reads
-use Rattle.machine.proofs.eval.+value_at.{statement}
-use Rattle.machine.proofs.eval.+value_at.Tie.{close}
+use Rattle.instruction.proofs.eval.join.Reads as join-reads
+use Rattle.instruction.proofs.eval.+value_at.{statement}
+use Rattle.instruction.proofs.eval.+value_at.Tie.{close}
 
 abbrev μ-value-at : Measures 2 value-at-kinds.ps ℕ
 μ-value-at κs a = a .1 .1 .1 .0 - a .1 .1 .1 .1 .0

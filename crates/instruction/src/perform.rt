@@ -15,7 +15,7 @@ ghost use Rattle.base.specs.Answers.{shapeOf};
 ghost use Rattle.rules.specs.Shape.{vars};
 ghost use Rattle.storage.specs.Cells.{stored};
 ghost use Rattle.program.specs.Codes.{aloneOf, onVariable};
-ghost use Rattle.machine.specs.Perform.{Fitting, onValue};
+ghost use Rattle.instruction.specs.Perform.{Fitting, onValue};
 
 // INIT, NOT, TAND, TOR (R17).
 pub fn flag_op(shape: Shape, s: &mut [u8], code: u8)
