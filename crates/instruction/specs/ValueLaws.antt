@@ -89,11 +89,23 @@ past (suc k) file v stop p =
 announces-bad : (v b : ℕ) → v ≤ b → (b < 250) ⊎ (254 < b) → announced v b ≡ bad
 unfolding announced
 announces-bad v b h (inl g) =
-    rw (le-ltb b v h, ne-eqb b 250 (omega arith), ne-eqb b 251 (omega arith), ne-eqb b 252 (omega arith), ne-eqb b 253 (omega arith),
-    ne-eqb b 254 (omega arith))
+    rw (
+      le-ltb b v h,
+      ne-eqb b 250 (omega arith),
+      ne-eqb b 251 (omega arith),
+      ne-eqb b 252 (omega arith),
+      ne-eqb b 253 (omega arith),
+      ne-eqb b 254 (omega arith),
+    )
 announces-bad v b h (inr g) =
-    rw (le-ltb b v h, ne-eqb b 250 (omega arith), ne-eqb b 251 (omega arith), ne-eqb b 252 (omega arith), ne-eqb b 253 (omega arith),
-    ne-eqb b 254 (omega arith))
+    rw (
+      le-ltb b v h,
+      ne-eqb b 250 (omega arith),
+      ne-eqb b 251 (omega arith),
+      ne-eqb b 252 (omega arith),
+      ne-eqb b 253 (omega arith),
+      ne-eqb b 254 (omega arith),
+    )
 
 announces-variable : (v b : ℕ) → b < v → announced v b ≡ leaf (cell b)
 unfolding announced
@@ -184,7 +196,7 @@ module _ (file s : List ℕ) (v stop p : ℕ) (r : Readable file s v stop p) whe
   unfolding eval
   value-constant h g =
       let is : (x : Read Exp) → Reads file v stop p x → x ≡ record { got = con (eqb 1 (b - 250)); next = suc p }
-          = λ x q. rw (announces-constant v b (r .most) h g) at (open′ x q .parts) in
+      = λ x q. rw (announces-constant v b (r .most) h g) at (open′ x q .parts) in
       record {
         value = λ x q. sym (bit-eqb (b - 250) (omega arith)) ∙ ap (worth s) (sym (is x q));
         place = λ x q. add-one p ∙ ap (λ (y : Read Exp). y .next) (sym (is x q));

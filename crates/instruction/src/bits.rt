@@ -6,20 +6,12 @@ ghost use Prim.Native.Nat.{min, max};
 pub fn both(x: u8, y: u8) -> u8
     ensures { λ r. ⌜ r ≡ min x y ⌝ }
 {
-    if x < y {
-        x
-    } else {
-        y
-    }
+    if x < y { x } else { y }
 }
 
 // OR of two bits.
 pub fn either(x: u8, y: u8) -> u8
     ensures { λ r. ⌜ r ≡ max x y ⌝ }
 {
-    if x < y {
-        y
-    } else {
-        x
-    }
+    if x < y { y } else { x }
 }

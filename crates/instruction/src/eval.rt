@@ -1,6 +1,5 @@
 // The value of an expression on a storage.
 use base::bytes::wide;
-
 ghost use mathlib.Core.Path.{_≡_};
 ghost use Prim.Native.Nat.{ℕ, _≤_};
 ghost use lib.ListN.{length};
@@ -19,17 +18,29 @@ pub fn value_at(file: &[u8], s: &[u8], vars: usize, stop: usize, at: usize) -> V
 {
     let b = file[at];
     if b < 250 {
-        return Valued { bit: s[wide(b)], next: at + 1 };
+        return Valued {
+            bit: s[wide(b)],
+            next: at + 1,
+        };
     }
     if b < 252 {
-        return Valued { bit: b - 250, next: at + 1 };
+        return Valued {
+            bit: b - 250,
+            next: at + 1,
+        };
     }
     let x = value_at(file, s, vars, stop, at + 1);
     if b == 252 {
-        return Valued { bit: 1 - x.bit, next: x.next };
+        return Valued {
+            bit: 1 - x.bit,
+            next: x.next,
+        };
     }
     let y = value_at(file, s, vars, stop, x.next);
-    Valued { bit: join(b, x.bit, y.bit), next: y.next }
+    Valued {
+        bit: join(b, x.bit, y.bit),
+        next: y.next,
+    }
 }
 
 // AND (253) or OR (254) of two bits.
@@ -37,16 +48,8 @@ fn join(b: u8, x: u8, y: u8) -> u8
     ensures { λ r. ⌜ r ≡ joined b x y ⌝ }
 {
     if b == 253 {
-        if x == 1 {
-            y
-        } else {
-            0
-        }
+        if x == 1 { y } else { 0 }
     } else {
-        if x == 1 {
-            1
-        } else {
-            y
-        }
+        if x == 1 { 1 } else { y }
     }
 }

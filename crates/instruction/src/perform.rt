@@ -8,7 +8,6 @@ use storage::drop_top;
 use storage::push;
 use storage::put_cell;
 use storage::reset;
-
 ghost use mathlib.Core.Path.{_≡_};
 ghost use Prim.Native.Nat.{_+_, _<_, _≤_};
 ghost use Rattle.base.specs.Answers.{shapeOf};

@@ -219,10 +219,10 @@ module _ (file : List ℕ) (sh : Shape) (n : ℕ) (s : List ℕ) (i : ℕ) (r : 
               | no p ↦ inr (omega (arith, tells .label h .0))
             ] in
             let stays : (q : List ℕ) → obey (programIn file .shape) (onLabel c (l .0)) i (bitsOf s) q ≡ due (suc i) (bitsOf s) q
-              = λ q. elim two [
-                | inl p ↦ rw (p, down)
-                | inr p ↦ rw (p, down)
-              ] in
+            = λ q. elim two [
+              | inl p ↦ rw (p, down)
+              | inr p ↦ rw (p, down)
+            ] in
             record {
               leads = (omega arith, omega (arith, later .0, later .1), λ q. rw (goes, next) (stays q));
               stored = r .stored;

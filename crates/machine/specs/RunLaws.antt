@@ -34,20 +34,29 @@ unfolding scanFrom
 comes-spent P s i n q = refl
 
 comes-end : (P : Program) (s : List ℕ) (i left : ℕ) (s′ : List ℕ) → (left ≡ 0 → ⊥) → Leads P s i End s′ → Comes P s i left (Back (left - 1)) s′
-comes-end P s i left s′ h g = (omega arith, λ n q. one-step P left n i (bitsOf s) q h ∙ ap (scanFrom P (left - 1) (suc n)) (g q)
-    ∙ counted P (left - 1) (suc n) (n + (left - (left - 1))) (back (bitsOf s′) q) (omega arith))
+comes-end P s i left s′ h g = (
+  omega arith,
+  λ n q. one-step P left n i (bitsOf s) q h ∙ ap (scanFrom P (left - 1) (suc n)) (g q)
+      ∙ counted P (left - 1) (suc n) (n + (left - (left - 1))) (back (bitsOf s′) q) (omega arith),
+)
 
 comes-on : (P : Program) (s s₁ s₂ : List ℕ) (i left : ℕ) (j : Instr) (r : Ran) → (left ≡ 0 → ⊥) → Leads P s i (On j) s₁
     → Comes P s₁ (j .0) (left - 1) r s₂ → Comes P s i left r s₂
-comes-on P s s₁ s₂ i left j (Back m) h g c = (omega (arith, c .0), λ n q. one-step P left n i (bitsOf s) q h
-    ∙ ap (scanFrom P (left - 1) (suc n)) (g .2 q) ∙ c .1 (suc n) q ∙ counted P m (suc n + (left - 1 - m)) (n + (left - m)) (back (bitsOf s₂) q) (omega (arith, c .0)))
+comes-on P s s₁ s₂ i left j (Back m) h g c = (
+  omega (arith, c .0),
+  λ n q. one-step P left n i (bitsOf s) q h
+      ∙ ap (scanFrom P (left - 1) (suc n)) (g .2 q) ∙ c .1 (suc n) q ∙ counted P m (suc n + (left - 1 - m)) (n + (left - m)) (back (bitsOf s₂) q) (omega (arith, c .0)),
+)
 comes-on P s s₁ s₂ i left j (Spent k) h g c = λ n q. one-step P left n i (bitsOf s) q h ∙ ap (scanFrom P (left - 1) (suc n)) (g .2 q) ∙ c (suc n) q
 
 comes-call : (P : Program) (s s₁ s₂ s₃ : List ℕ) (i left m : ℕ) (l : Instr) (r : Ran) → (left ≡ 0 → ⊥) → Leads P s i (Call l) s₁
     → Comes P s₁ (l .0) (left - 1) (Back m) s₂ → Comes P s₂ (suc i) m r s₃ → Comes P s i left r s₃
-comes-call P s s₁ s₂ s₃ i left m l (Back k) h g c d = (omega (arith, c .0, d .0), λ n q. one-step P left n i (bitsOf s) q h
-    ∙ ap (scanFrom P (left - 1) (suc n)) (g .2 q) ∙ c .1 (suc n) (suc i ∷ q) ∙ d .1 (suc n + (left - 1 - m)) q
-    ∙ counted P k (suc n + (left - 1 - m) + (m - k)) (n + (left - k)) (back (bitsOf s₃) q) (omega (arith, c .0, d .0)))
+comes-call P s s₁ s₂ s₃ i left m l (Back k) h g c d = (
+  omega (arith, c .0, d .0),
+  λ n q. one-step P left n i (bitsOf s) q h
+      ∙ ap (scanFrom P (left - 1) (suc n)) (g .2 q) ∙ c .1 (suc n) (suc i ∷ q) ∙ d .1 (suc n + (left - 1 - m)) q
+      ∙ counted P k (suc n + (left - 1 - m) + (m - k)) (n + (left - k)) (back (bitsOf s₃) q) (omega (arith, c .0, d .0)),
+)
 comes-call P s s₁ s₂ s₃ i left m l (Spent k) h g c d = λ n q. one-step P left n i (bitsOf s) q h
     ∙ ap (scanFrom P (left - 1) (suc n)) (g .2 q) ∙ c .1 (suc n) (suc i ∷ q) ∙ d (suc n + (left - 1 - m)) q
 

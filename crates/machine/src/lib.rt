@@ -2,19 +2,18 @@
 pub mod obey;
 pub mod run;
 
-use crate::run::run_from;
 use crate::run::Ran;
+use crate::run::run_from;
 use base::bytes::word;
 use base::kinds::Instr;
 use base::refusal::Refusal;
 use base::shape::Shape;
+use program::Checked;
 use program::check_program;
 use program::header::shape_at;
-use program::Checked;
+use storage::Cells;
 use storage::check_cells;
 use storage::copy_cells;
-use storage::Cells;
-
 ghost use mathlib.Core.Path.{_≡_};
 ghost use lib.ListN.{length};
 ghost use Rattle.rules.specs.Verdict.{granted};
@@ -31,7 +30,14 @@ pub enum Scanned {
 }
 
 // The steps, on a copy of the storage, which is handed over when the machine has stopped.
-fn scan_on(file: &[u8], shape: Shape, n: usize, storage: &mut [u8], copy: &mut [u8], budget: u32) -> Scanned
+fn scan_on(
+    file: &[u8],
+    shape: Shape,
+    n: usize,
+    storage: &mut [u8],
+    copy: &mut [u8],
+    budget: u32,
+) -> Scanned
     requires { ⌜ Runnable (now file) shape n (now storage) 0 ⌝ }
     requires { ⌜ length (now storage) ≡ length (now copy) ⌝ }
     ensures { λ r. ⌜ Scans (now (file .entry)) (now (storage .entry)) budget r (now (storage .exit)) ⌝ }

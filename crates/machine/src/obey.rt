@@ -1,17 +1,16 @@
 // One instruction of an accepted program, decoded where its entry leads and performed.
+use base::bytes::word;
+use base::kinds::Cell;
+use base::kinds::Instr;
+use base::shape::Shape;
 use instruction::eval::value_at;
 use instruction::perform::flag_op;
 use instruction::perform::stack_op;
 use instruction::perform::value_op;
 use instruction::perform::variable_op;
-use base::bytes::word;
-use base::kinds::Cell;
-use base::kinds::Instr;
-use base::shape::Shape;
 use program::body::body_at;
 use storage::cell_at;
 use storage::reset;
-
 ghost use mathlib.Core.Path.{_≡_};
 ghost use Prim.Native.Nat.{_≤_, _<_};
 ghost use lib.ListN.{getD};

@@ -1,9 +1,8 @@
 // The machine's steps, from an instruction to the END that closes its part.
+use crate::obey::Move;
+use crate::obey::obey;
 use base::kinds::Instr;
 use base::shape::Shape;
-use crate::obey::obey;
-use crate::obey::Move;
-
 ghost use mathlib.Core.Path.{_≡_};
 ghost use Rattle.machine.specs.Run.{Runnable, Ends};
 

@@ -61,14 +61,73 @@ all-kinded =
     let last : Kinded 10 (alone END) = (omega arith, λ h. absurd (omega arith), λ _. refl) in
     let expr : (c : ℕ) → 16 ≤ c → c < 20 → Kinded c (withExpr (onExpr c)) = λ c h k. (h, k, λ x. refl) in
     let var : (c : ℕ) → 32 ≤ c → c < 37 → Kinded c (withVar (onVariable c)) = λ c h k. (h, k, λ b. refl) in
-    let label : (c : ℕ) → 48 ≤ c → c < 52 → Kinded c (withLabel (onLabel c)) = λ c h k. (h, k, λ l. refl) in
-    (lone 0 (omega arith), (lone 1 (omega arith), (lone 2 (omega arith), (lone 3 (omega arith), (lone 4 (omega arith),
-    (lone 5 (omega arith), (lone 6 (omega arith), (lone 7 (omega arith), (lone 8 (omega arith), (lone 9 (omega arith),
-    (last, (expr 16 (omega arith) (omega arith), (expr 17 (omega arith) (omega arith),
-    (expr 18 (omega arith) (omega arith), (expr 19 (omega arith) (omega arith), (var 32 (omega arith) (omega arith),
-    (var 33 (omega arith) (omega arith), (var 34 (omega arith) (omega arith), (var 35 (omega arith) (omega arith),
-    (var 36 (omega arith) (omega arith), (label 48 (omega arith) (omega arith), (label 49 (omega arith) (omega arith),
-    (label 50 (omega arith) (omega arith), (label 51 (omega arith) (omega arith), tt))))))))))))))))))))))))
+    let label : (c : ℕ) → 48 ≤ c → c < 52 → Kinded c (withLabel (onLabel c)) = λ c h k. (h, k, λ l. refl) in (
+      lone 0 (omega arith),
+      (
+        lone 1 (omega arith),
+        (
+          lone 2 (omega arith),
+          (
+            lone 3 (omega arith),
+            (
+              lone 4 (omega arith),
+              (
+                lone 5 (omega arith),
+                (
+                  lone 6 (omega arith),
+                  (
+                    lone 7 (omega arith),
+                    (
+                      lone 8 (omega arith),
+                      (
+                        lone 9 (omega arith),
+                        (
+                          last,
+                          (
+                            expr 16 (omega arith) (omega arith),
+                            (
+                              expr 17 (omega arith) (omega arith),
+                              (
+                                expr 18 (omega arith) (omega arith),
+                                (
+                                  expr 19 (omega arith) (omega arith),
+                                  (
+                                    var 32 (omega arith) (omega arith),
+                                    (
+                                      var 33 (omega arith) (omega arith),
+                                      (
+                                        var 34 (omega arith) (omega arith),
+                                        (
+                                          var 35 (omega arith) (omega arith),
+                                          (
+                                            var 36 (omega arith) (omega arith),
+                                            (
+                                              label 48 (omega arith) (omega arith),
+                                              (
+                                                label 49 (omega arith) (omega arith),
+                                                (label 50 (omega arith) (omega arith), (label 51 (omega arith) (omega arith), tt)),
+                                              ),
+                                            ),
+                                          ),
+                                        ),
+                                      ),
+                                    ),
+                                  ),
+                                ),
+                              ),
+                            ),
+                          ),
+                        ),
+                      ),
+                    ),
+                  ),
+                ),
+              ),
+            ),
+          ),
+        ),
+      ),
+    )
 
 module _ (e : Edition) (file : List ℕ) (sh : Shape) (n i p : ℕ) (x : Instr) where
   alone-by : (c : ℕ) (m : Form) → Kinded c m → Says e file sh n i p x m → c < 16
@@ -81,7 +140,7 @@ module _ (e : Edition) (file : List ℕ) (sh : Shape) (n i p : ℕ) (x : Instr) 
 
   expr-by : (c : ℕ) (m : Form) → Kinded c m → Says e file sh n i p x m → 10 < c → c < 32
       → (16 ≤ c) × (c < 20) × (y : Read Exp)
-          × (readExpr (e .mostExpr) file (vars sh) (suc p + e .mostExpr) (suc p) ≡ granted y) × (x ≡ plain (onExpr c (y .got)))
+      × (readExpr (e .mostExpr) file (vars sh) (suc p + e .mostExpr) (suc p) ≡ granted y) × (x ≡ plain (onExpr c (y .got)))
   expr-by c (alone y) k q h l = absurd (omega (arith, k .0))
   expr-by c (withExpr g) (a, b, d) (y, u, v) h l = (a, b, y, u, v ∙ ap plain (d (y .got)))
   expr-by c (withVar g) k q h l = absurd (omega (arith, k .0))
@@ -98,7 +157,7 @@ module _ (e : Edition) (file : List ℕ) (sh : Shape) (n i p : ℕ) (x : Instr) 
 
   label-by : (c : ℕ) (m : Form) → Kinded c m → Says e file sh n i p x m → 48 ≤ c
       → (c < 52) × (suc p + 2 ≤ length file) × (i < numberAt 2 file (suc p)) × (numberAt 2 file (suc p) < n)
-          × (x ≡ onLabel c (numberAt 2 file (suc p)))
+      × (x ≡ onLabel c (numberAt 2 file (suc p)))
   label-by c (alone y) k q h = absurd (omega (arith, k .0))
   label-by c (withExpr g) k q h = absurd (omega (arith, k .1))
   label-by c (withVar g) k q h = absurd (omega (arith, k .1))

@@ -57,17 +57,18 @@ value-at-returns-3 : (t : ℕ) → value-at-lts.Need-returns-3 (wide-reads.Asked
 value-at-returns-3 t c = value-not _ _ _ _ _ (c .before .before .before .before .before .before .before .before .pre .1) (c .before .if3 .taken) _ (c .before .before .value-at .ensures)
 
 value-at-value-at-requires-2 : (t : ℕ) → value-at-lts.Need-value-at-requires-2 (wide-reads.Asked, wide-reads.Learnt, value-at-below t, value-at.Post, join-reads.Asked, join-reads.Learnt) (value-at-at t) value-at.Post
-value-at-value-at-requires-2 t c κs = 
+value-at-value-at-requires-2 t c κs =
     let a = c .before .before .before .before .before .before .before .args in
-    let h : 252 < getD (a .file .now) (a .at) 0 = omega (arith, c .before .before .if2 .left, c .if3 .left) in
-    (omega (arith, second-later _ _ _ _ _ (c .before .before .before .before .before .before .before .pre .1) h _ (c .before .value-at .ensures), read-before _ _ _ _ _ (c .before .before .before .before .before .before .before .pre .1), read-before _ _ _ _ _ (read-second _ _ _ _ _ (c .before .before .before .before .before .before .before .pre .1) h _ (c .before .value-at .ensures)), c .before .before .before .before .before .before .before .pre .0),
-    read-second _ _ _ _ _ (c .before .before .before .before .before .before .before .pre .1) h _ (c .before .value-at .ensures))
+    let h : 252 < getD (a .file .now) (a .at) 0 = omega (arith, c .before .before .if2 .left, c .if3 .left) in (
+      omega (arith, second-later _ _ _ _ _ (c .before .before .before .before .before .before .before .pre .1) h _ (c .before .value-at .ensures), read-before _ _ _ _ _ (c .before .before .before .before .before .before .before .pre .1), read-before _ _ _ _ _ (read-second _ _ _ _ _ (c .before .before .before .before .before .before .before .pre .1) h _ (c .before .value-at .ensures)), c .before .before .before .before .before .before .before .pre .0),
+      read-second _ _ _ _ _ (c .before .before .before .before .before .before .before .pre .1) h _ (c .before .value-at .ensures),
+    )
 
 value-at-join-requires : (t : ℕ) → value-at-lts.Need-join-requires (wide-reads.Asked, wide-reads.Learnt, value-at-below t, value-at.Post, join-reads.Asked, join-reads.Learnt) (value-at-at t) value-at.Post
 value-at-join-requires t c κs = search needs
 
 value-at-returns-4 : (t : ℕ) → value-at-lts.Need-returns-4 (wide-reads.Asked, wide-reads.Learnt, value-at-below t, value-at.Post, join-reads.Asked, join-reads.Learnt) (value-at-at t) value-at.Post
-value-at-returns-4 t c = 
+value-at-returns-4 t c =
     let a = c .before .before .before .before .before .before .before .before .before .args in
     let h : 252 < getD (a .file .now) (a .at) 0 = omega (arith, c .before .before .before .before .if2 .left, c .before .before .if3 .left) in
     rw (c .join .ensures) (value-two _ _ _ _ _ (c .before .before .before .before .before .before .before .before .before .pre .1) h _ _ (c .before .before .before .value-at .ensures) (c .before .value-at2 .ensures))

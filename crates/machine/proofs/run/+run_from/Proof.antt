@@ -45,7 +45,7 @@ run-from-sub-run-from : (t : ℕ) → run-from-lts.Need-sub-run-from (obey-reads
 run-from-sub-run-from t c = search needs
 
 run-from-run-from-requires : (t : ℕ) → run-from-lts.Need-run-from-requires (obey-reads.Asked, obey-reads.Learnt, run-from-below t, run-from.Post) (run-from-at t) run-from.Post
-run-from-run-from-requires t c κs = 
+run-from-run-from-requires t c κs =
     let start = c .before .before .before .before .before .before .before .before .before .before .before in
     let e : c .before .before .before .before .before .before .obey .result ≡ On (c .before .before .j .given .0 .0) = cc in
     let o = rw e at (c .before .before .before .before .before .before .obey .ensures) in
@@ -58,7 +58,7 @@ run-from-sub-run-from-2 : (t : ℕ) → run-from-lts.Need-sub-run-from-2 (obey-r
 run-from-sub-run-from-2 t c = search needs
 
 run-from-run-from-requires-2 : (t : ℕ) → run-from-lts.Need-run-from-requires-2 (obey-reads.Asked, obey-reads.Learnt, run-from-below t, run-from.Post) (run-from-at t) run-from.Post
-run-from-run-from-requires-2 t c κs = 
+run-from-run-from-requires-2 t c κs =
     let start = c .before .before .before .before .before .before .before .before .before .before .before in
     let e : c .before .before .before .before .before .before .obey .result ≡ Call (c .before .before .l .given .0 .0) = cc in
     let o = rw e at (c .before .before .before .before .before .before .obey .ensures) in
@@ -71,12 +71,13 @@ run-from-add-t27 : (t : ℕ) → run-from-lts.Need-add-t27 (obey-reads.Asked, ob
 run-from-add-t27 t c = omega (arith, c .before .before .before .before .before .before .before .before .before .before .before .before .before .before .before .before .before .before .before .pre .1 .low, c .before .before .before .before .before .before .before .before .before .before .before .before .before .before .before .before .before .before .before .pre .1 .most)
 
 run-from-run-from-requires-3 : (t : ℕ) → run-from-lts.Need-run-from-requires-3 (obey-reads.Asked, obey-reads.Learnt, run-from-below t, run-from.Post) (run-from-at t) run-from.Post
-run-from-run-from-requires-3 t c κs = 
+run-from-run-from-requires-3 t c κs =
     let start = c .before .before .before .before .before .before .before .before .before .before .before .before .before .before .before .before .before .before .before in
     let e : c .before .before .before .before .before .before .before .before .before .before .before .before .before .before .obey .result ≡ Call (c .before .before .before .before .before .before .before .before .before .before .l .given .0 .0) = cc in
-    let o = rw e at (c .before .before .before .before .before .before .before .before .before .before .before .before .before .before .obey .ensures) in
-    (omega (arith, start .pre .0, start .pre .1 .low),
-    runnable-at _ _ _ _ _ (runnable-at _ _ _ _ _ (start .pre .1) _ (o .stored) _ (start .pre .1 .low)) _ (c .before .before .before .before .before .before .before .run-from2 .ensures .stored) _ (omega (arith, o .leads .0, o .leads .1, start .pre .1 .count)))
+    let o = rw e at (c .before .before .before .before .before .before .before .before .before .before .before .before .before .before .obey .ensures) in (
+      omega (arith, start .pre .0, start .pre .1 .low),
+      runnable-at _ _ _ _ _ (runnable-at _ _ _ _ _ (start .pre .1) _ (o .stored) _ (start .pre .1 .low)) _ (c .before .before .before .before .before .before .before .run-from2 .ensures .stored) _ (omega (arith, o .leads .0, o .leads .1, start .pre .1 .count)),
+    )
 
 run-from-enum-known-j-2 : (t : ℕ) → run-from-lts.Need-enum-known-j-2 (obey-reads.Asked, obey-reads.Learnt, run-from-below t, run-from.Post) (run-from-at t) run-from.Post
 run-from-enum-known-j-2 t c = search needs
@@ -85,7 +86,7 @@ run-from-same-length : (t : ℕ) → run-from-lts.Need-same-length (obey-reads.A
 run-from-same-length t c = search needs
 
 run-from-returns-2 : (t : ℕ) → run-from-lts.Need-returns-2 (obey-reads.Asked, obey-reads.Learnt, run-from-below t, run-from.Post) (run-from-at t) run-from.Post
-run-from-returns-2 t c = 
+run-from-returns-2 t c =
     let start = c .before .before .before .before .before .before .before .before .before in
     let e : c .before .before .before .before .obey .result ≡ End = cc in
     let o = rw e at (c .before .before .before .before .obey .ensures) in
@@ -95,7 +96,7 @@ run-from-same-length-2 : (t : ℕ) → run-from-lts.Need-same-length-2 (obey-rea
 run-from-same-length-2 t c = search needs
 
 run-from-returns-3 : (t : ℕ) → run-from-lts.Need-returns-3 (obey-reads.Asked, obey-reads.Learnt, run-from-below t, run-from.Post) (run-from-at t) run-from.Post
-run-from-returns-3 t c = 
+run-from-returns-3 t c =
     let start = c .before .before .before .before .before .before .before .before .before .before .before .before .before .before in
     let e : c .before .before .before .before .before .before .before .before .before .obey .result ≡ On (c .before .before .before .before .before .j .given .0 .0) = cc in
     let o = rw e at (c .before .before .before .before .before .before .before .before .before .obey .ensures) in
@@ -105,7 +106,7 @@ run-from-same-length-3 : (t : ℕ) → run-from-lts.Need-same-length-3 (obey-rea
 run-from-same-length-3 t c = search needs
 
 run-from-returns-4 : (t : ℕ) → run-from-lts.Need-returns-4 (obey-reads.Asked, obey-reads.Learnt, run-from-below t, run-from.Post) (run-from-at t) run-from.Post
-run-from-returns-4 t c = 
+run-from-returns-4 t c =
     let start = c .before .before .before .before .before .before .before .before .before .before .before .before .before .before .before .before .before .before .before .before .before .before in
     let e : c .before .before .before .before .before .before .before .before .before .before .before .before .before .before .before .before .before .obey .result ≡ Call (c .before .before .before .before .before .before .before .before .before .before .before .before .before .l .given .0 .0) = cc in
     let o = rw e at (c .before .before .before .before .before .before .before .before .before .before .before .before .before .before .before .before .before .obey .ensures) in
@@ -116,7 +117,7 @@ run-from-same-length-4 : (t : ℕ) → run-from-lts.Need-same-length-4 (obey-rea
 run-from-same-length-4 t c = search needs
 
 run-from-returns-5 : (t : ℕ) → run-from-lts.Need-returns-5 (obey-reads.Asked, obey-reads.Learnt, run-from-below t, run-from.Post) (run-from-at t) run-from.Post
-run-from-returns-5 t c = 
+run-from-returns-5 t c =
     let start = c .before .before .before .before .before .before .before .before .before .before .before .before .before .before .before .before .before in
     let e : c .before .before .before .before .before .before .before .before .before .before .before .before .obey .result ≡ Call (c .before .before .before .before .before .before .before .before .l .given .0 .0) = cc in
     let o = rw e at (c .before .before .before .before .before .before .before .before .before .before .before .before .obey .ensures) in
