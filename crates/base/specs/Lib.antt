@@ -1,3 +1,4 @@
 pub mod Answers
 pub mod Words
 pub mod Refusals
+pub mod Clearing

@@ -3,3 +3,4 @@ pub mod bytes;
 pub mod kinds;
 pub mod refusal;
 pub mod shape;
+pub mod work;

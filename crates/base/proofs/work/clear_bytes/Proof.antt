@@ -1,0 +1,50 @@
+use Rattle.base.specs.Clearing.{Clearing, clearing-none, clearing-more, clearing-all}
+use Prim.Native.Nat.{_-_}
+use lib.ListN.{length}
+use native.Mathlib.Omega.{arith}
+use borrow.Author.Needs.{needs}
+use Rattle.base.proofs.work.clear_bytes.Statement.{statement}
+use Rattle.base.proofs.work.clear_bytes.Tie as tie
+use Rattle.base.proofs.work.clear_bytes.Reads as reads
+use Rattle.base.proofs.work.clear_bytes.Lts as lts
+
+abbrev Inv-loop : tie.InvT-loop
+Inv-loop work₀ i₀ work i = Clearing work₀ work i
+
+abbrev μ-loop : tie.MeasureT-loop
+μ-loop work₀ i₀ work i = length work₀ - i
+
+loop-holds : tie.Need-loop-holds Inv-loop μ-loop
+loop-holds c = clearing-none _
+
+slice-write-work : tie.Need-slice-write-work Inv-loop μ-loop
+slice-write-work c = search needs
+
+add-i : tie.Need-add-i Inv-loop μ-loop
+add-i c = search needs
+
+loop-less : tie.Need-loop-less Inv-loop μ-loop
+loop-less c = search needs
+
+loop-again : tie.Need-loop-again Inv-loop μ-loop
+loop-again c = clearing-more _ _ _ (c .before .loop .inv) (omega arith)
+
+same-length : tie.Need-same-length Inv-loop μ-loop
+same-length c = search needs
+
+returns : tie.Need-returns Inv-loop μ-loop
+returns c = clearing-all _ _ _ (c .before .loop .inv) (omega arith)
+
+pub clear-bytes-spec : {M : Type 1} → statement M
+clear-bytes-spec =
+    tie.close
+    (tie.spec
+    Inv-loop
+    μ-loop
+    loop-holds
+    slice-write-work
+    add-i
+    loop-less
+    loop-again
+    same-length
+    returns)
