@@ -1,11 +1,8 @@
 -- Which instruction a code is, and what performing it asks for.
-use Prim.Native.Nat.{ℕ, _+_, _-_, _≤_, min, max}
+use Prim.Native.Nat.{ℕ, _-_, _≤_, min, max}
 use mathlib.Core.List.{List, [], _∷_}
 use lib.ListN.{getD, set}
 use Rattle.rules.specs.Shape as R
-use Rattle.rules.specs.Expr.{Exp}
-use Rattle.rules.specs.Instr.{Instr, JP, JPC, JS, JSC, END}
-use Rattle.rules.specs.Instr.{Plain, INIT, NOT, TAND, TOR, PUSH, POP, DROP, DUP, FSWP, ESWP, LOAD, AND, OR, EPUSH, STORE, SET, RES, REDGE, FEDGE}
 use Rattle.base.specs.declared.shape.Shape.{Shape}
 use Rattle.base.specs.Answers.{shapeOf}
 use Rattle.storage.specs.Cells.{Storage, pushOn}

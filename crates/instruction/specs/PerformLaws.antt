@@ -20,12 +20,14 @@ pub op-not : (sh : Shape) (s : List ℕ) (code f x : ℕ) → code ≡ 1 → f �
 unfolding stored
 op-not sh s code f x e0 e1 e2 = cc
 
-pub op-tand : (sh : Shape) (s : List ℕ) (code f x y v : ℕ) → code ≡ 2 → f ≡ flag sh → x ≡ getD s f 0 → y ≡ getD s (f + 1) 0 → v ≡ min x y
+pub op-tand : (sh : Shape) (s : List ℕ) (code f x y v : ℕ) → code ≡ 2 → f ≡ flag sh → x ≡ getD s f 0 → y ≡ getD s (f + 1) 0
+    → v ≡ min x y
     → set s f v ≡ stored sh s (aloneOf code)
 unfolding stored
 op-tand sh s code f x y v e0 e1 e2 e3 e4 = cc
 
-pub op-tor : (sh : Shape) (s : List ℕ) (code f x y v : ℕ) → code ≡ 3 → f ≡ flag sh → x ≡ getD s f 0 → y ≡ getD s (f + 1) 0 → v ≡ max x y
+pub op-tor : (sh : Shape) (s : List ℕ) (code f x y v : ℕ) → code ≡ 3 → f ≡ flag sh → x ≡ getD s f 0 → y ≡ getD s (f + 1) 0
+    → v ≡ max x y
     → set s f v ≡ stored sh s (aloneOf code)
 unfolding stored
 op-tor sh s code f x y v e0 e1 e2 e3 e4 = cc
@@ -50,12 +52,14 @@ pub op-dup : (sh : Shape) (s : List ℕ) (code f y : ℕ) → code ≡ 7 → f �
 unfolding stored
 op-dup sh s code f y e0 e1 e2 = cc
 
-pub op-fswp : (sh : Shape) (s t : List ℕ) (code f x y : ℕ) → code ≡ 8 → f ≡ flag sh → x ≡ getD s f 0 → y ≡ getD s (f + 1) 0 → t ≡ set s (f + 1) x
+pub op-fswp : (sh : Shape) (s t : List ℕ) (code f x y : ℕ) → code ≡ 8 → f ≡ flag sh → x ≡ getD s f 0 → y ≡ getD s (f + 1) 0
+    → t ≡ set s (f + 1) x
     → set t f y ≡ stored sh s (aloneOf code)
 unfolding stored
 op-fswp sh s t code f x y e0 e1 e2 e3 e4 = cc
 
-pub op-eswp : (sh : Shape) (s t : List ℕ) (code f y z : ℕ) → code ≡ 9 → f ≡ flag sh → y ≡ getD s (f + 1) 0 → z ≡ getD s (f + 2) 0 → t ≡ set s (f + 2) y
+pub op-eswp : (sh : Shape) (s t : List ℕ) (code f y z : ℕ) → code ≡ 9 → f ≡ flag sh → y ≡ getD s (f + 1) 0
+    → z ≡ getD s (f + 2) 0 → t ≡ set s (f + 2) y
     → set t (f + 1) z ≡ stored sh s (aloneOf code)
 unfolding stored
 op-eswp sh s t code f y z e0 e1 e2 e3 e4 = cc
@@ -85,22 +89,26 @@ pub op-store : (sh : Shape) (s : List ℕ) (code f b x : ℕ) → code ≡ 32 �
 unfolding stored
 op-store sh s code f b x e0 e1 e2 = cc
 
-pub op-set : (sh : Shape) (s : List ℕ) (code f b x y v : ℕ) → code ≡ 33 → f ≡ flag sh → x ≡ getD s f 0 → y ≡ getD s b 0 → v ≡ max x y
+pub op-set : (sh : Shape) (s : List ℕ) (code f b x y v : ℕ) → code ≡ 33 → f ≡ flag sh → x ≡ getD s f 0 → y ≡ getD s b 0
+    → v ≡ max x y
     → set s b v ≡ stored sh s (onVariable code b)
 unfolding stored
 op-set sh s code f b x y v e0 e1 e2 e3 e4 = cc
 
-pub op-res : (sh : Shape) (s : List ℕ) (code f b x y v : ℕ) → code ≡ 34 → f ≡ flag sh → x ≡ getD s f 0 → y ≡ getD s b 0 → v ≡ min (1 - x) y
+pub op-res : (sh : Shape) (s : List ℕ) (code f b x y v : ℕ) → code ≡ 34 → f ≡ flag sh → x ≡ getD s f 0 → y ≡ getD s b 0
+    → v ≡ min (1 - x) y
     → set s b v ≡ stored sh s (onVariable code b)
 unfolding stored
 op-res sh s code f b x y v e0 e1 e2 e3 e4 = cc
 
-pub op-redge : (sh : Shape) (s t : List ℕ) (code f b x y v : ℕ) → code ≡ 35 → f ≡ flag sh → x ≡ getD s f 0 → y ≡ getD s b 0 → v ≡ min x (1 - y) → t ≡ set s b x
+pub op-redge : (sh : Shape) (s t : List ℕ) (code f b x y v : ℕ) → code ≡ 35 → f ≡ flag sh → x ≡ getD s f 0 → y ≡ getD s b 0
+    → v ≡ min x (1 - y) → t ≡ set s b x
     → set t f v ≡ stored sh s (onVariable code b)
 unfolding stored
 op-redge sh s t code f b x y v e0 e1 e2 e3 e4 e5 = cc
 
-pub op-fedge : (sh : Shape) (s t : List ℕ) (code f b x y v : ℕ) → code ≡ 36 → f ≡ flag sh → x ≡ getD s f 0 → y ≡ getD s b 0 → v ≡ min (1 - x) y → t ≡ set s b x
+pub op-fedge : (sh : Shape) (s t : List ℕ) (code f b x y v : ℕ) → code ≡ 36 → f ≡ flag sh → x ≡ getD s f 0 → y ≡ getD s b 0
+    → v ≡ min (1 - x) y → t ≡ set s b x
     → set t f v ≡ stored sh s (onVariable code b)
 unfolding stored
 op-fedge sh s t code f b x y v e0 e1 e2 e3 e4 e5 = cc

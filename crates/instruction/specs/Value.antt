@@ -1,9 +1,9 @@
 -- What evaluating an expression in the bytes of a program asks for and gives.
 use Prim.Native.Nat.{ℕ, _≤_}
 use mathlib.Core.Path.{_≡_}
-use mathlib.Core.Bool.{Bool, cond}
-use mathlib.Core.List.{List, map}
-use lib.ListN.{length, getD}
+use mathlib.Core.Bool.{cond}
+use mathlib.Core.List.{List}
+use lib.ListN.{length}
 use lib.Dec.{eqb}
 use Rattle.rules.specs.Verdict.{granted}
 use Rattle.rules.specs.Expr.{Exp, Read, eval, readExpr}

@@ -1,19 +1,19 @@
 -- What the first byte of an expression tells, and the value that follows from the values of its operands.
 use Prim.Native.Nat.{ℕ, zero, suc, _+_, _-_, _≤_, _<_}
 use mathlib.Core.Path.{_≡_, refl, sym, ap, ap₂, _∙_}
-use mathlib.Core.Bool.{Bool, true, false, cond, not}
+use mathlib.Core.Bool.{Bool, true, false, cond}
 use mathlib.Core.List.{List}
 use mathlib.Core.Logic.{_⊎_, inl, inr}
 use native.Mathlib.Omega.{arith}
 use native.Mathlib.Numerals.{add-one}
 use native.Mathlib.Decide.{decLt}
-use lib.ListN.{length, getD, List·getD-map}
-use lib.Dec.{eqb, leb, ltb}
-use borrow.Author.Tests.{leb-false, ltb-true, ltb-false, eqb-true, eqb-false, lt-ltb, le-ltb, eq-eqb, ne-eqb}
-use Rattle.rules.specs.Verdict.{Verdict, granted, refused, _>>=_}
+use lib.ListN.{length, getD}
+use lib.Dec.{eqb, leb}
+use borrow.Author.Tests.{leb-false, lt-ltb, le-ltb, ne-eqb}
+use Rattle.rules.specs.Verdict.{granted}
 use Rattle.rules.specs.Expr.{Exp, con, cell, neg, bin, op, eval, Read, Announced, leaf, one, two, bad, announced, readOperands, readExpr}
 use Rattle.rules.specs.Operations.{bit}
-use Rattle.laws.specs.Verdict.{bind-granted, check-granted, Grants, grants, refuses, grants-of, grants-self, grants-bind, grants-check}
+use Rattle.laws.specs.Verdict.{bind-granted, check-granted, Grants, grants, refuses, grants-of, grants-bind, grants-check}
 use Rattle.storage.specs.Cells.{bitsOf}
 use Rattle.storage.specs.Stores.{bit-eqb, bit-not, cell-byte}
 use Rattle.instruction.specs.declared.eval.Valued.{Valued}
@@ -178,16 +178,19 @@ module _ (file s : List ℕ) (v stop p : ℕ) (r : Readable file s v stop p) whe
   read-variable h = elim (decLt b v) [ yes g ↦ g | no g ↦ absurd (never (announces-bad v b (omega arith) (inl h))) ]
 
   read-most : b ≤ 254
-  read-most = elim (decLt 254 b) [ yes g ↦ absurd (never (announces-bad v b (omega (arith, r .most)) (inr g))) | no g ↦ omega arith ]
+  read-most = elim (decLt 254 b)
+      [ yes g ↦ absurd (never (announces-bad v b (omega (arith, r .most)) (inr g))) | no g ↦ omega arith ]
 
   pub value-variable : b < 250 → Values file s v stop p (record { bit = getD s b 0; next = p + 1 })
   unfolding eval
   value-variable h = record {
     value = λ x q.
-        let e : x ≡ record { got = cell b; next = suc p } = rw (announces-variable v b (read-variable h)) at (open′ x q .parts) in
+        let e : x ≡ record { got = cell b; next = suc p } = rw (announces-variable v b (read-variable h)) at
+        (open′ x q .parts) in
         sym (cell-byte s (r .holds) b) ∙ ap (worth s) (sym e);
     place = λ x q.
-        let e : x ≡ record { got = cell b; next = suc p } = rw (announces-variable v b (read-variable h)) at (open′ x q .parts) in
+        let e : x ≡ record { got = cell b; next = suc p } = rw (announces-variable v b (read-variable h)) at
+        (open′ x q .parts) in
         add-one p ∙ ap (λ (y : Read Exp). y .next) (sym e);
     small = r .holds b;
   }
@@ -223,12 +226,14 @@ module _ (file s : List ℕ) (v stop p : ℕ) (r : Readable file s v stop p) whe
         rw add-one (readable (suc p) (q .0) (q .1))
   ]
 
-  pub value-not : b ≡ 252 → (y : Valued) → Values file s v stop (p + 1) y → Values file s v stop p (record { bit = 1 - y .bit; next = y .next })
+  pub value-not : b ≡ 252 → (y : Valued) → Values file s v stop (p + 1) y
+      → Values file s v stop p (record { bit = 1 - y .bit; next = y .next })
   unfolding eval
   value-not h y w = record {
     value = λ x q.
         let t = not-parts h x q in
-        ap (λ n. 1 - n) ((rw add-one at w) .value (t .0) (t .1)) ∙ sym (bit-not (eval (bitsOf s) (t .0 .got))) ∙ ap (worth s) (sym (t .2));
+        ap (λ n. 1 - n) ((rw add-one at w) .value (t .0) (t .1)) ∙ sym (bit-not (eval (bitsOf s) (t .0 .got)))
+        ∙ ap (worth s) (sym (t .2));
     place = λ x q.
         let t = not-parts h x q in
         cc ((rw add-one at w) .place (t .0) (t .1), t .2);

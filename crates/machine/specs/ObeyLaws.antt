@@ -1,7 +1,7 @@
 -- What one instruction does, from its code, the bytes after it and the storage.
-use Prim.Native.Nat.{ℕ, zero, suc, _+_, _*_, _≤_, _<_}
-use mathlib.Core.Path.{_≡_, refl, sym, ap, _∙_}
-use mathlib.Core.Bool.{Bool, true, false}
+use Prim.Native.Nat.{ℕ, suc, _+_, _≤_, _<_}
+use mathlib.Core.Path.{_≡_, sym, ap, _∙_}
+use mathlib.Core.Bool.{true, false}
 use mathlib.Core.List.{List, _∷_}
 use native.Mathlib.Omega.{arith}
 use native.Mathlib.Decide.{decLt}
@@ -9,17 +9,15 @@ use mathlib.Core.Logic.{_⊎_, inl, inr}
 use lib.ListN.{length, getD}
 use lib.Dec.{eqb}
 use borrow.Author.Tests.{eq-eqb, ne-eqb}
-use Rattle.rules.specs.Verdict.{granted}
 use Rattle.rules.specs.Lists.{numberAt}
 use Rattle.rules.specs.Edition.{old}
 use Rattle.rules.specs.Shape.{vars, flag}
-use Rattle.rules.specs.Expr.{Exp, Read, eval, readExpr}
 use Rattle.rules.specs.Instr as I
-use Rattle.rules.specs.Instr.{Plain, INIT, plain, JP, JPC, JS, JSC, END}
-use Rattle.rules.specs.ProgramFile.{Program, entryAt, bodyAt}
-use Rattle.rules.specs.Machine.{State, due, back, step, obey, perform}
+use Rattle.rules.specs.Instr.{Plain, INIT, plain, END}
+use Rattle.rules.specs.ProgramFile.{entryAt, bodyAt}
+use Rattle.rules.specs.Machine.{due, obey, perform}
 use Rattle.rules.specs.Operations.{bit, storageBytes}
-use Rattle.laws.specs.Canonical.{WellFormed, Fine}
+use Rattle.laws.specs.Canonical.{WellFormed}
 use Rattle.laws.specs.Shape.{Limits, shape-limits}
 use Rattle.laws.specs.ProgramFile.{read-wellformed, read-shape}
 use Rattle.laws.specs.Decode.{Decodes, read-decodes}
@@ -35,7 +33,7 @@ use Rattle.instruction.specs.Perform.{Fitting, onValue}
 use Rattle.instruction.specs.PerformLaws.{value-stored}
 use Rattle.program.specs.Codes.{Coded, coded}
 use Rattle.instruction.specs.Value.{Reads, Readable, Values}
-use Rattle.machine.specs.Run.{programIn, instrAt, Performed, Runnable, Leads, Obeys}
+use Rattle.machine.specs.Run.{programIn, instrAt, Performed, Runnable, Obeys}
 
 module _ (file : List ℕ) (sh : Shape) (n : ℕ) (s : List ℕ) (i : ℕ) (r : Runnable file sh n s i) where
   decodes : Decodes old file (programIn file)

@@ -1,14 +1,13 @@
 -- How a run ends, from how its first instruction leads and how the runs after it end.
-use Prim.Native.Nat.{ℕ, zero, suc, _+_, _-_, _≤_, _<_}
-use mathlib.Core.Path.{_≡_, refl, sym, ap, _∙_}
+use Prim.Native.Nat.{ℕ, zero, suc, _+_, _-_, _<_}
+use mathlib.Core.Path.{_≡_, refl, ap, _∙_}
 use mathlib.Core.Bool.{Bool}
 use mathlib.Core.List.{List, [], _∷_}
 use native.Mathlib.Omega.{arith}
 use native.Mathlib.Numerals.{add-one}
-use lib.ListN.{length}
-use Rattle.rules.specs.Verdict.{granted, refused}
+use Rattle.rules.specs.Verdict.{granted}
 use Rattle.rules.specs.ProgramFile.{Program}
-use Rattle.rules.specs.Machine.{State, due, stopped, back, step, Scanned, scanFrom, scanProgram}
+use Rattle.rules.specs.Machine.{State, due, stopped, back, step, scanFrom, scanProgram}
 use Rattle.base.specs.declared.shape.Shape.{Shape}
 use Rattle.base.specs.declared.kinds.Instr.{Instr}
 use Rattle.machine.specs.declared.obey.Move.the-variants.{On, Call, End}
@@ -33,7 +32,8 @@ comes-spent : (P : Program) (s : List ℕ) (i : Instr) → Comes P s (i .0) 0 (S
 unfolding scanFrom
 comes-spent P s i n q = refl
 
-comes-end : (P : Program) (s : List ℕ) (i left : ℕ) (s′ : List ℕ) → (left ≡ 0 → ⊥) → Leads P s i End s′ → Comes P s i left (Back (left - 1)) s′
+comes-end : (P : Program) (s : List ℕ) (i left : ℕ) (s′ : List ℕ) → (left ≡ 0 → ⊥) → Leads P s i End s′
+    → Comes P s i left (Back (left - 1)) s′
 comes-end P s i left s′ h g = (
   omega arith,
   λ n q. one-step P left n i (bitsOf s) q h ∙ ap (scanFrom P (left - 1) (suc n)) (g q)
@@ -45,9 +45,11 @@ comes-on : (P : Program) (s s₁ s₂ : List ℕ) (i left : ℕ) (j : Instr) (r 
 comes-on P s s₁ s₂ i left j (Back m) h g c = (
   omega (arith, c .0),
   λ n q. one-step P left n i (bitsOf s) q h
-      ∙ ap (scanFrom P (left - 1) (suc n)) (g .2 q) ∙ c .1 (suc n) q ∙ counted P m (suc n + (left - 1 - m)) (n + (left - m)) (back (bitsOf s₂) q) (omega (arith, c .0)),
+      ∙ ap (scanFrom P (left - 1) (suc n)) (g .2 q) ∙ c .1 (suc n) q
+      ∙ counted P m (suc n + (left - 1 - m)) (n + (left - m)) (back (bitsOf s₂) q) (omega (arith, c .0)),
 )
-comes-on P s s₁ s₂ i left j (Spent k) h g c = λ n q. one-step P left n i (bitsOf s) q h ∙ ap (scanFrom P (left - 1) (suc n)) (g .2 q) ∙ c (suc n) q
+comes-on P s s₁ s₂ i left j (Spent k) h g c = λ n q. one-step P left n i (bitsOf s) q h
+    ∙ ap (scanFrom P (left - 1) (suc n)) (g .2 q) ∙ c (suc n) q
 
 comes-call : (P : Program) (s s₁ s₂ s₃ : List ℕ) (i left m : ℕ) (l : Instr) (r : Ran) → (left ≡ 0 → ⊥) → Leads P s i (Call l) s₁
     → Comes P s₁ (l .0) (left - 1) (Back m) s₂ → Comes P s₂ (suc i) m r s₃ → Comes P s i left r s₃
@@ -62,7 +64,8 @@ comes-call P s s₁ s₂ s₃ i left m l (Spent k) h g c d = λ n q. one-step P 
 
 comes-lost : (P : Program) (s s₁ s₂ : List ℕ) (i left : ℕ) (l j : Instr) → (left ≡ 0 → ⊥) → Leads P s i (Call l) s₁
     → Comes P s₁ (l .0) (left - 1) (Spent j) s₂ → Comes P s i left (Spent j) s₂
-comes-lost P s s₁ s₂ i left l j h g c = λ n q. one-step P left n i (bitsOf s) q h ∙ ap (scanFrom P (left - 1) (suc n)) (g .2 q) ∙ c (suc n) (suc i ∷ q)
+comes-lost P s s₁ s₂ i left l j h g c = λ n q. one-step P left n i (bitsOf s) q h ∙ ap (scanFrom P (left - 1) (suc n)) (g .2 q)
+    ∙ c (suc n) (suc i ∷ q)
 
 -- A scan whose whole run came back was granted, with as many steps as were spent.
 pub scan-back : (P : Program) (s s′ : List ℕ) (budget m : ℕ) → Comes P s 0 budget (Back m) s′
@@ -100,13 +103,15 @@ module _ (file : List ℕ) (sh : Shape) (n : ℕ) (s : List ℕ) (i : ℕ) (r : 
     pub ends-end : Obeys file s i End s₁ → Ends file s i left (Back (left - 1)) s₁
     ends-end o = record { comes = comes-end (programIn file) s i left s₁ h (o .leads); stored = o .stored }
 
-    pub ends-on : (j : Instr) (s₂ : List ℕ) (t : Ran) → Obeys file s i (On j) s₁ → Ends file s₁ (j .0) (left - 1) t s₂ → Ends file s i left t s₂
+    pub ends-on : (j : Instr) (s₂ : List ℕ) (t : Ran) → Obeys file s i (On j) s₁ → Ends file s₁ (j .0) (left - 1) t s₂
+        → Ends file s i left t s₂
     ends-on j s₂ t o c = record {
       comes = comes-on (programIn file) s s₁ s₂ i left j t h (o .leads) (c .comes);
       stored = c .stored;
     }
 
-    pub ends-call : (l : Instr) (m : ℕ) (s₂ s₃ : List ℕ) (t : Ran) → Obeys file s i (Call l) s₁ → Ends file s₁ (l .0) (left - 1) (Back m) s₂
+    pub ends-call : (l : Instr) (m : ℕ) (s₂ s₃ : List ℕ) (t : Ran) → Obeys file s i (Call l) s₁
+        → Ends file s₁ (l .0) (left - 1) (Back m) s₂
         → Ends file s₂ (i + 1) m t s₃ → Ends file s i left t s₃
     ends-call l m s₂ s₃ t o c d = record {
       comes = comes-call (programIn file) s s₁ s₂ s₃ i left m l t h (o .leads) (c .comes) (rw add-one at (d .comes));

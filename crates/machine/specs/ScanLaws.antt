@@ -1,5 +1,5 @@
 -- A scan refused by its file, by its storage or by its budget, and a scan that stopped; and the contract admits one result only.
-use Prim.Native.Nat.{ℕ, _+_, _-_, _≤_, _<_}
+use Prim.Native.Nat.{ℕ, _-_, _≤_}
 use mathlib.Core.Path.{_≡_, refl, sym, ap, _∙_}
 use mathlib.Core.List.{List, []}
 use native.Mathlib.Omega.{arith}
@@ -10,9 +10,7 @@ use Rattle.rules.specs.Shape.{cells, shapeAt}
 use Rattle.rules.specs.Lists.{numberAt}
 use Rattle.rules.specs.ProgramFile.{Program, readProgram}
 use Rattle.rules.specs.Machine as M
-use Rattle.rules.specs.Operations.{checkStorage, scan, storageAfter}
-use Rattle.laws.specs.Verdict.{bind-granted}
-use Rattle.laws.specs.Canonical.{WellFormed}
+use Rattle.rules.specs.Operations.{checkStorage, scan}
 use Rattle.laws.specs.ProgramFile.{read-wellformed}
 use Rattle.laws.specs.Decode.{Decodes, read-decodes}
 use Rattle.base.specs.declared.shape.Shape.{Shape}
@@ -22,7 +20,7 @@ use Rattle.base.specs.declared.refusal.Refusal.the-variants.{BudgetSpent}
 use Rattle.base.specs.Answers.{shapeOf, refusedBy, numberOf, placeOf}
 use Rattle.base.specs.Refusals.{refusalOf, refusal-back}
 use Rattle.program.specs.Contracts.{checkOf}
-use Rattle.storage.specs.Cells.{bitsOf, Storage}
+use Rattle.storage.specs.Cells.{bitsOf}
 use Rattle.storage.specs.Checked.{checkCells, cells-passed, cells-refused, all-cells}
 use Rattle.storage.specs.Stores.{bytes-back}
 use Rattle.machine.specs.declared.Scanned.{Scanned}
@@ -30,10 +28,11 @@ use Rattle.machine.specs.declared.Scanned.the-variants.{Stopped, Refused
 use Rattle.machine.specs.declared.run.Ran.the-variants.{Back, Spent}
 use Rattle.machine.specs.Run.{grantedProgram, programIn, Runnable, Ends}
 use Rattle.machine.specs.RunLaws.{scan-back}
-use Rattle.machine.specs.Scan.{scannedVerdict, stepsOf, Scans}
+use Rattle.machine.specs.Scan.{scannedVerdict, Scans}
 
 -- What follows from what the rules' scan is.
-refused-scan : (file s : List ℕ) (budget : ℕ) (x : Refusal) → scan old file s budget ≡ refusedBy x → Scans file s budget (Refused x) s
+refused-scan : (file s : List ℕ) (budget : ℕ) (x : Refusal) → scan old file s budget ≡ refusedBy x
+    → Scans file s budget (Refused x) s
 refused-scan file s budget x e = record { answer = rw e; leaves = rw e }
 
 -- R51: the file is judged first.
@@ -104,7 +103,8 @@ module _ (file : List ℕ) (sh : Shape) (n : ℕ) (s : List ℕ) (r : Runnable f
     pub scan-spent : (i : Instr) → Ends file copy 0 budget (Spent i) t → Scans file s budget (Refused (BudgetSpent i)) s
     scan-spent i d = refused-scan file s budget (BudgetSpent i) (scan-is budget ∙ rw same at (d .comes) 0 [])
 
-    pub scan-stopped : (m : ℕ) → Ends file copy 0 budget (Back m) t → (u : List ℕ) → u ≡ t → Scans file s budget (Stopped (budget - m)) u
+    pub scan-stopped : (m : ℕ) → Ends file copy 0 budget (Back m) t → (u : List ℕ) → u ≡ t
+        → Scans file s budget (Stopped (budget - m)) u
     scan-stopped m d u e =
         let is = scan-is budget ∙ scan-back (programIn file) s t budget m (rw same at (d .comes)) in
         record { answer = rw is; leaves = rw (e, is) (sym (bytes-back t (d .stored .bits))) }
@@ -119,7 +119,8 @@ unfolding answerOf
 answer-back (Stopped n) = refl
 answer-back (Refused x) = ap Refused (refusal-back x)
 
-pub scan-only : (file s : List ℕ) (budget : ℕ) (a b : Scanned) (t u : List ℕ) → Scans file s budget a t → Scans file s budget b u
+pub scan-only : (file s : List ℕ) (budget : ℕ) (a b : Scanned) (t u : List ℕ) → Scans file s budget a t
+    → Scans file s budget b u
     → (a ≡ b) × (t ≡ u)
 scan-only file s budget a b t u p q =
     (sym (answer-back a) ∙ ap answerOf (p .answer ∙ sym (q .answer)) ∙ answer-back b, p .leaves ∙ sym (q .leaves))

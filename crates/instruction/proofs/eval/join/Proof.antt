@@ -1,6 +1,4 @@
 use borrow.Author.Tests.{eq-eqb, ne-eqb}
-use native.Mathlib.Omega.{arith}
-use borrow.Author.Needs.{needs}
 use Rattle.instruction.proofs.eval.join.Statement.{statement}
 use Rattle.instruction.proofs.eval.join.Tie as tie
 use Rattle.instruction.proofs.eval.join.Reads as reads

@@ -1,8 +1,7 @@
 use Rattle.base.specs.Answers.{shapeOf}
 use mathlib.Core.Path.{_≡_}
 use Rattle.instruction.specs.PerformLaws.{op-push, op-pop, op-drop, op-dup, op-fswp, op-eswp}
-use lib.ListN.{set}
-use mathlib.Core.Path.{ap, _∙_}
+use mathlib.Core.Path.{_∙_}
 use native.Mathlib.Omega.{arith}
 use borrow.Author.Needs.{needs}
 use Rattle.instruction.proofs.perform.stack_op.Statement.{statement}

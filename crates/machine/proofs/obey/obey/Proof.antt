@@ -1,4 +1,4 @@
-use mathlib.Core.Path.{refl, _∙_}
+use mathlib.Core.Path.{refl}
 use Rattle.machine.specs.ObeyLaws.{contents-there, fitting, inside, obeys-end, obeys-plain}
 use native.Mathlib.Omega.{arith}
 use borrow.Author.Needs.{needs}

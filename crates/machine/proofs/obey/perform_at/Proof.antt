@@ -1,4 +1,4 @@
-use mathlib.Core.Path.{refl, _∙_}
+use mathlib.Core.Path.{refl}
 use Rattle.machine.specs.ObeyLaws.{fitting, inside, by-alone, by-value, by-variable, readable, value-codes, variable-there, variable-codes}
 use native.Mathlib.Omega.{arith}
 use borrow.Author.Needs.{needs}
