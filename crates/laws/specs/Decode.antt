@@ -62,7 +62,7 @@ instr-stands e file sh n i p =
     record { inside = omega (arith, leb-false (length file) p h); says = rw at s }
 
 -- The last k of n instructions, of which i come before, stand where their entries lead.
-instrs-stand : (e : Edition) (file : List ℕ) (sh : Shape) (n k i p : ℕ) → i + k ≡ n
+pub instrs-stand : (e : Edition) (file : List ℕ) (sh : Shape) (n k i p : ℕ) → i + k ≡ n
     → Grants (λ r. (j : ℕ) → j < k → Stands e file sh n (i + j) (getD (r .got) j END)) (readInstrs e file sh n k p)
 unfolding readInstrs
 instrs-stand e file sh n zero i p h = grants (λ j l. absurd (omega arith))

@@ -5,7 +5,7 @@ pub mod Header
 pub mod Expr
 pub mod Body
 pub mod Walk
+pub mod Codes
 pub mod Last
 pub mod Rest
 pub mod Check
-pub mod Codes

@@ -1,5 +1,5 @@
 -- What follows the header of a program file: a law for each answer.
-use Prim.Native.Nat.{ℕ, suc, _+_, _*_, _-_, _≤_, _<_}
+use Prim.Native.Nat.{ℕ, _+_, _*_, _-_, _≤_, _<_}
 use mathlib.Core.Path.{_≡_, refl, sym, _∙_}
 use mathlib.Core.Bool.{Bool, true, false, not, _&&_}
 use mathlib.Core.List.{List}
@@ -39,7 +39,7 @@ module _ (file : List ℕ) (sh : Shape) (n : ℕ) where
     _ ← refuseIf (not (isEnd (getD (xs .got) (n - 1) END))) 9 (lastAt file n)
     granted (record { shape = sh; instrs = xs .got })
 
-  finish-closed : (m : Verdict (Read (List Instr))) (q : ℕ) → Grants (Closing file sh n (n - 1)) m → ends m ≡ granted q
+  finish-closed : (m : Verdict (Read (List Instr))) (q : ℕ) → Grants (Closing file n) m → ends m ≡ granted q
       → ((m >>= finish) >>= λ _. granted tt) ≡ closed file n q
   unfolding closed
   finish-closed (granted xs) q (grants c) e =
@@ -59,14 +59,8 @@ module _ (file : List ℕ) (sh : Shape) (n : ℕ) where
       let z : d ≡ b = cc in
       rw (y, z)
 
-  -- The instructions close as R14 says, all n of them.
-  closing : (p : ℕ) → 1 ≤ n → Grants (Closing file sh n (n - 1)) (readInstrs old file sh n n p)
-  closing p h =
-      let z : suc (n - 1) ≡ n = omega arith in
-      rw z at (instrs-closing file sh n (n - 1) p)
-
-  -- So if they are read, the code of the last is there.
-  last-there : (m : Verdict (Read (List Instr))) (q : ℕ) → Grants (Closing file sh n (n - 1)) m → ends m ≡ granted q
+  -- If the instructions are read, the code of the last is there.
+  last-there : (m : Verdict (Read (List Instr))) (q : ℕ) → Grants (Closing file n) m → ends m ≡ granted q
       → lastAt file n < length file
   last-there (granted xs) q (grants c) e = c .there
   last-there (refused a b) q g e =
@@ -116,12 +110,12 @@ module _ (file : List ℕ) (sh : Shape) (n : ℕ) (d : Bool) (e : n ≡ numberAt
         module _ (q : ℕ) (z : r ≡ To q) where
           pub rest-last : lastAt file n < length file
           rest-last =
-              let m = closing file sh n (entryAt old n) (contents .some) in
+              let m = instrs-closing file sh n (entryAt old n) (contents .some) in
               last-there file sh n (readInstrs old file sh n n (entryAt old n)) q m (sym (rw z at g))
 
           pub rest-closed : (k : Checked) → checkedVerdict k ≡ closed file n q → checkedVerdict k ≡ instrsOf file sh
           unfolding readRest
           rest-closed k c =
-              let m = closing file sh n (entryAt old n) (contents .some) in
+              let m = instrs-closing file sh n (entryAt old n) (contents .some) in
               rw (← e, ← f, t, le-ltb (length file) (7 + 2 * n) l)
               (c ∙ sym (finish-closed file sh n (readInstrs old file sh n n (entryAt old n)) q m (sym (rw z at g))))
