@@ -67,20 +67,20 @@ module _ (file : List ℕ) (sh : Shape) (n : ℕ) where
       let z : _≡_ {A = ℕ} 0 1 = cc in
       absurd (omega arith)
 
--- R9, R14, R48: after n instructions that end at q; w is the entry of the last.
+-- R9, R14, R48: after n instructions that end at q; b is where the entry of the last leads.
 module _ (file : List ℕ) (n q : ℕ) where
   pub closed-more : q < length file → refused 4 q ≡ closed file n q
   unfolding closed
   closed-more h = rw (lt-ltb q (length file) h)
 
-  module _ (h : length file ≤ q) (w : ℕ) (e : w ≡ numberAt 2 file (entryAt old (n - 1))) where
-    pub closed-other : (getD file (entryAt old n + w) 0 ≡ 10 → ⊥) → refused 9 (entryAt old n + w) ≡ closed file n q
+  module _ (h : length file ≤ q) (b : ℕ) (e : b ≡ lastAt file n) where
+    pub closed-other : (getD file b 0 ≡ 10 → ⊥) → refused 9 b ≡ closed file n q
     unfolding closed
-    closed-other t = rw (le-ltb q (length file) h, ← e, ne-eqb (getD file (entryAt old n + w) 0) 10 t)
+    closed-other t = rw (le-ltb q (length file) h, ← e, ne-eqb (getD file b 0) 10 t)
 
-    pub closed-end : getD file (entryAt old n + w) 0 ≡ 10 → granted tt ≡ closed file n q
+    pub closed-end : getD file b 0 ≡ 10 → granted tt ≡ closed file n q
     unfolding closed
-    closed-end t = rw (le-ltb q (length file) h, ← e, eq-eqb (getD file (entryAt old n + w) 0) 10 t)
+    closed-end t = rw (le-ltb q (length file) h, ← e, eq-eqb (getD file b 0) 10 t)
 
 -- R8, R48: what follows a header with that shape and the count n.
 module _ (file : List ℕ) (sh : Shape) (n : ℕ) (d : Bool) (e : n ≡ numberAt 2 file (countAt old))

@@ -7,10 +7,9 @@ use native.Mathlib.Numerals.{add-one}
 use lib.ListN.{length, getD}
 use borrow.Author.Tests.{eq-eqb, ne-eqb, le-leb, lt-leb}
 use Rattle.rules.specs.Verdict.{granted, refused, _>>=_}
-use Rattle.rules.specs.Lists.{numberAt}
 use Rattle.rules.specs.Edition.{old}
 use Rattle.rules.specs.Shape.{Shape}
-use Rattle.rules.specs.ProgramFile.{codes, formOf, entryAt, readBody, readInstr, readInstrs}
+use Rattle.rules.specs.ProgramFile.{codes, formOf, entryAt, bodyAt, readBody, readInstr, readInstrs}
 use Rattle.base.specs.Answers.{refusedBy}
 use Rattle.base.specs.declared.refusal.Refusal.{Refusal}
 use Rattle.program.specs.declared.expr.Walked.{Walked}
@@ -18,22 +17,22 @@ use Rattle.program.specs.declared.expr.Walked.the-variants.{To, Refused}
 use Rattle.program.specs.Contracts.{walkedVerdict, ends}
 use Rattle.program.specs.Chains.{ends-then, ends-made}
 
--- R9, R48: instruction i of n, whose body must stand at p; w is its entry.
-module _ (file : List ℕ) (sh : Shape) (n i p w : ℕ) (e : w ≡ numberAt 2 file (entryAt old i)) where
-  pub instr-misplaced : (entryAt old n + w ≡ p → ⊥) → refused 4 (entryAt old i) ≡ ends (readInstr old file sh n i p)
+-- R9, R48: instruction i of n, whose body must stand at p; b is where its entry leads.
+module _ (file : List ℕ) (sh : Shape) (n i p b : ℕ) (e : b ≡ bodyAt old file n i) where
+  pub instr-misplaced : (b ≡ p → ⊥) → refused 4 (entryAt old i) ≡ ends (readInstr old file sh n i p)
   unfolding readInstr
-  instr-misplaced h = rw (← e, ne-eqb (entryAt old n + w) p h)
+  instr-misplaced h = rw (← e, ne-eqb b p h)
 
-  module _ (h : entryAt old n + w ≡ p) where
+  module _ (h : b ≡ p) where
     pub instr-short : length file ≤ p → refused 1 (length file) ≡ ends (readInstr old file sh n i p)
     unfolding readInstr
-    instr-short l = rw (← e, eq-eqb (entryAt old n + w) p h, le-leb (length file) p l)
+    instr-short l = rw (← e, eq-eqb b p h, le-leb (length file) p l)
 
     pub instr-read : (r : Walked) → p < length file
         → walkedVerdict r ≡ ends (readBody old file sh n i p (formOf codes (getD file p 0)))
         → walkedVerdict r ≡ ends (readInstr old file sh n i p)
     unfolding readInstr
-    instr-read r l b = rw (← e, eq-eqb (entryAt old n + w) p h, lt-leb (length file) p l) b
+    instr-read r l w = rw (← e, eq-eqb b p h, lt-leb (length file) p l) w
 
 -- R9: the walk over n instructions has reached instruction i at p: what is left of it gives the answer of the whole.
 pub record Reached (file : List ℕ) (sh : Shape) (n i p : ℕ) : Type 0 where

@@ -1,8 +1,8 @@
 // The bodies of instructions (R10 to R13).
 use crate::expr::Walked;
 use crate::expr::read_expr;
-use base::bytes::wide;
 use base::bytes::word;
+use base::kinds::Cell;
 use base::kinds::Instr;
 use base::refusal::Refusal;
 use base::shape::Shape;
@@ -40,10 +40,10 @@ fn asked_by(code: u8) -> Follows
 }
 
 // R12: whether an instruction may write a variable: it is below V, and no input.
-fn may_write(shape: Shape, b: usize) -> bool
-    ensures { λ r. ⌜ r ≡ writable (shapeOf shape) b ⌝ }
+fn may_write(shape: Shape, b: Cell) -> bool
+    ensures { λ r. ⌜ r ≡ writable (shapeOf shape) (b .0) ⌝ }
 {
-    shape.inputs as usize <= b && b < shape.vars()
+    shape.inputs <= b.0 && (b.0 as usize) < shape.vars()
 }
 
 // R12, R48: the variable at a place is there (1) and may be written (7).
@@ -53,37 +53,37 @@ fn read_variable(file: &[u8], shape: Shape, at: usize) -> Walked
     if file.len() <= at {
         return Walked::Refused(Refusal::EndsEarly(file.len()));
     }
-    if !may_write(shape, wide(file[at])) {
+    if !may_write(shape, Cell::of_byte(file[at])) {
         return Walked::Refused(Refusal::NotWritable(at));
     }
     Walked::To(at + 1)
 }
 
 // R13: whether instruction i of n may jump to l: it comes later, and is one of the n.
-fn may_jump(i: usize, l: usize, n: usize) -> bool
-    ensures { λ r. ⌜ r ≡ (ltb i l && ltb l n) ⌝ }
+fn may_jump(i: Instr, l: Instr, n: usize) -> bool
+    ensures { λ r. ⌜ r ≡ (ltb (i .0) (l .0) && ltb (l .0) n) ⌝ }
 {
-    i < l && l < n
+    i.0 < l.0 && (l.0 as usize) < n
 }
 
 // R13, R48: the label at a place is whole (1) and leads to a later instruction (8).
-fn read_label(file: &[u8], n: usize, i: usize, at: usize) -> Walked
+fn read_label(file: &[u8], n: usize, i: Instr, at: usize) -> Walked
     requires { ⌜ at ≤ farthest ⌝ }
-    ensures { λ r. ⌜ walkedVerdict r ≡ labelAt (now (file .entry)) n i at ⌝ }
+    ensures { λ r. ⌜ walkedVerdict r ≡ labelAt (now (file .entry)) n (i .0) at ⌝ }
 {
     if file.len() < at + 2 {
         return Walked::Refused(Refusal::EndsEarly(file.len()));
     }
-    if !may_jump(i, word(file, at), n) {
+    if !may_jump(i, Instr::of_word(word(file, at)), n) {
         return Walked::Refused(Refusal::BadLabel(at));
     }
     Walked::To(at + 2)
 }
 
 // R10, R48: the body of instruction i of n at a place: its code is known (5), and then its operand.
-pub fn read_body(file: &[u8], shape: Shape, n: usize, i: usize, at: usize) -> Walked
+pub fn read_body(file: &[u8], shape: Shape, n: usize, i: Instr, at: usize) -> Walked
     requires { do ⌜ (at < (← ⟦file.len()⟧)) × (at < farthest) ⌝ }
-    ensures { λ r. ⌜ walkedVerdict r ≡ ends (bodyRead (now (file .entry)) (shapeOf shape) n i at) ⌝ }
+    ensures { λ r. ⌜ walkedVerdict r ≡ ends (bodyRead (now (file .entry)) (shapeOf shape) n (i .0) at) ⌝ }
 {
     match asked_by(file[at]) {
         Follows::Nothing => Walked::To(at + 1),

@@ -1,9 +1,11 @@
 // The instructions of a program, one after another (R8, R9, R14, R48).
 use crate::Checked;
+use crate::body::body_at;
 use crate::body::read_body;
 use crate::expr::Walked;
 use crate::header::within;
 use base::bytes::word;
+use base::kinds::Instr;
 use base::refusal::Refusal;
 use base::shape::Shape;
 ghost use mathlib.Core.Path.{_≡_};
@@ -15,12 +17,12 @@ ghost use Rattle.base.specs.Answers.{shapeOf};
 ghost use Rattle.program.specs.Contracts.{checkedVerdict, walkedVerdict, ends, Contents, lastAt, closed, instrsOf};
 
 // R9, R48: instruction i of n, whose body must begin at a place: its entry says so (4), a code is there (1), and then its body.
-fn read_instr(file: &[u8], shape: Shape, n: usize, i: usize, at: usize) -> Walked
-    requires { ⌜ Contents (now file) n × (i < n) ⌝ }
-    ensures { λ r. ⌜ walkedVerdict r ≡ ends (readInstr old (now (file .entry)) (shapeOf shape) n i at) ⌝ }
+fn read_instr(file: &[u8], shape: Shape, n: usize, i: Instr, at: usize) -> Walked
+    requires { ⌜ Contents (now file) n × (i .0 < n) ⌝ }
+    ensures { λ r. ⌜ walkedVerdict r ≡ ends (readInstr old (now (file .entry)) (shapeOf shape) n (i .0) at) ⌝ }
 {
-    let entry = 7 + 2 * i;
-    let start = 7 + 2 * n + word(file, entry);
+    let entry = 7 + 2 * (i.0 as usize);
+    let start = body_at(file, n, i);
     if start != at {
         return Walked::Refused(Refusal::Misplaced(entry));
     }
@@ -38,7 +40,7 @@ fn read_instrs(file: &[u8], shape: Shape, n: usize) -> Walked
     let mut at = 7 + 2 * n;
     let mut i = 0;
     while i < n {
-        match read_instr(file, shape, n, i, at) {
+        match read_instr(file, shape, n, Instr::of_word(i), at) {
             Walked::To(next) => {
                 at = next;
             }
@@ -59,7 +61,7 @@ fn check_end(file: &[u8], n: usize, at: usize) -> Checked
     if at < file.len() {
         return Checked::Refused(Refusal::Misplaced(at));
     }
-    let last = 7 + 2 * n + word(file, 7 + 2 * (n - 1));
+    let last = body_at(file, n, Instr::of_word(n - 1));
     if file[last] != 10 {
         return Checked::Refused(Refusal::LastNotEnd(last));
     }

@@ -1,20 +1,22 @@
--- `may_write` meets its contract: each bound is a test.
 use borrow.Author.Tests.{le-leb, lt-leb}
 use borrow.Author.Needs.{needs}
 use Rattle.program.proofs.body.may_write.Statement.{statement}
 use Rattle.program.proofs.body.may_write.Tie as tie
+use Rattle.program.proofs.body.may_write.Reads as reads
+use Rattle.program.proofs.body.may_write.Lts as lts
+use Rattle.base.proofs.shape.Shape.vars.Reads as vars-reads
 
-cast-if1 : tie.Need-cast-if1
-cast-if1 c = search needs
+cast-result : tie.Need-cast-result
+cast-result c = search needs
 
 vars-requires : tie.Need-vars-requires
 vars-requires c κs = search needs
 
 returns : tie.Need-returns
-returns c = simp (le-leb _ _ (c .before .if1 .taken), c .vars .ensures)
+returns c = simp (le-leb _ _ (c .before .before .if1 .taken), (c .vars .ensures))
 
 returns-2 : tie.Need-returns-2
 returns-2 c = simp (lt-leb _ _ (c .if1 .left))
 
 pub may-write-spec : {M : Type 1} → statement M
-may-write-spec = tie.close (tie.spec cast-if1 vars-requires returns returns-2)
+may-write-spec = tie.close (tie.spec cast-result vars-requires returns returns-2)

@@ -57,34 +57,34 @@ enum-told-5 c = search needs
 returns : tie.Need-returns
 returns c =
     let a = c .before .before .before .before .before .args in
-    ends-alone (a .file .now) (shapeOf (a .shape)) (a .n) (a .i) (a .at)
+    ends-alone (a .file .now) (shapeOf (a .shape)) (a .n) (a .i .0) (a .at)
     (sym (c .enum-told .given .1) ∙ c .before .before .asked-by .ensures)
 
 returns-2 : tie.Need-returns-2
 returns-2 c =
     let a = c .before .before .before .before .before .before .before .args in
-    ends-expr (a .file .now) (shapeOf (a .shape)) (a .n) (a .i) (a .at)
+    ends-expr (a .file .now) (shapeOf (a .shape)) (a .n) (a .i .0) (a .at)
     (c .read-expr .result) (sym (c .before .before .enum-told2 .given .1) ∙ c .before .before .before .before .asked-by .ensures)
     (rw (c .before .vars .ensures) at (c .read-expr .ensures))
 
 returns-3 : tie.Need-returns-3
 returns-3 c =
     let a = c .before .before .before .before .before .before .args in
-    ends-variable (a .file .now) (shapeOf (a .shape)) (a .n) (a .i) (a .at)
+    ends-variable (a .file .now) (shapeOf (a .shape)) (a .n) (a .i .0) (a .at)
     (c .read-variable .result) (sym (c .before .enum-told3 .given .1) ∙ c .before .before .before .asked-by .ensures)
     (c .read-variable .ensures)
 
 returns-4 : tie.Need-returns-4
 returns-4 c =
     let a = c .before .before .before .before .before .before .args in
-    ends-label (a .file .now) (shapeOf (a .shape)) (a .n) (a .i) (a .at)
+    ends-label (a .file .now) (shapeOf (a .shape)) (a .n) (a .i .0) (a .at)
     (c .read-label .result) (sym (c .before .enum-told4 .given .1) ∙ c .before .before .before .asked-by .ensures)
     (c .read-label .ensures)
 
 returns-5 : tie.Need-returns-5
 returns-5 c =
     let a = c .before .before .before .before .before .args in
-    ends-unknown (a .file .now) (shapeOf (a .shape)) (a .n) (a .i) (a .at)
+    ends-unknown (a .file .now) (shapeOf (a .shape)) (a .n) (a .i .0) (a .at)
     (sym (c .enum-told5 .given .1) ∙ c .before .before .asked-by .ensures)
 
 pub read-body-spec : {M : Type 1} → statement M

@@ -1,55 +1,42 @@
--- `check_end` meets its contract: a law for each answer.
+use Rattle.program.specs.Rest.{closed-more, closed-other, closed-end}
 use native.Mathlib.Omega.{arith}
 use borrow.Author.Needs.{needs}
-use Rattle.program.specs.Rest.{closed-more, closed-other, closed-end}
 use Rattle.program.proofs.walk.check_end.Statement.{statement}
 use Rattle.program.proofs.walk.check_end.Tie as tie
+use Rattle.program.proofs.walk.check_end.Reads as reads
+use Rattle.program.proofs.walk.check_end.Lts as lts
+use Rattle.base.proofs.kinds.Instr.of_word.Reads as of-word-reads
+use Rattle.program.proofs.body.body_at.Reads as body-at-reads
 
 returns : tie.Need-returns
 returns c = closed-more _ _ _ (omega arith)
 
-mul-last : tie.Need-mul-last
-mul-last c = search needs
+sub-of-word : tie.Need-sub-of-word
+sub-of-word c = search needs
 
-add-last : tie.Need-add-last
-add-last c = search needs
+of-word-requires : tie.Need-of-word-requires
+of-word-requires c κs = search needs
 
-sub-word : tie.Need-sub-word
-sub-word c = search needs
-
-mul-word : tie.Need-mul-word
-mul-word c = search needs
-
-add-word : tie.Need-add-word
-add-word c = search needs
-
-word-requires : tie.Need-word-requires
-word-requires c κs = search needs
-
-add-last-2 : tie.Need-add-last-2
-add-last-2 c = search needs
+body-at-requires : tie.Need-body-at-requires
+body-at-requires c κs = search needs
 
 shared-slice-read-if2 : tie.Need-shared-slice-read-if2
-shared-slice-read-if2 c = search needs
+shared-slice-read-if2 c = omega (arith, c .before .before .before .before .before .pre .1, (rw (c .before .before .of-word .ensures) at (c .before .body-at .ensures .0)))
 
 returns-2 : tie.Need-returns-2
-returns-2 c = closed-other _ _ _ (omega arith) _ (c .before .before .word .ensures .0) (c .if2 .taken)
+returns-2 c = closed-other _ _ _ (omega arith) _ (rw (c .before .before .before .of-word .ensures) at (c .before .before .body-at .ensures .0)) (c .if2 .taken)
 
 returns-3 : tie.Need-returns-3
-returns-3 c = closed-end _ _ _ (omega arith) _ (c .before .before .word .ensures .0) (c .if2 .left)
+returns-3 c = closed-end _ _ _ (omega arith) _ (rw (c .before .before .before .of-word .ensures) at (c .before .before .body-at .ensures .0)) (c .if2 .left)
 
 pub check-end-spec : {M : Type 1} → statement M
 check-end-spec =
     tie.close
     (tie.spec
     returns
-    mul-last
-    add-last
-    sub-word
-    mul-word
-    add-word
-    word-requires
-    add-last-2
+    sub-of-word
+    of-word-requires
+    body-at-requires
     shared-slice-read-if2
     returns-2
     returns-3)

@@ -1,10 +1,16 @@
--- `read_instr` meets its contract: a law for each answer.
-use native.Mathlib.Omega.{arith}
-use borrow.Author.Needs.{needs}
 use Rattle.base.specs.Answers.{shapeOf}
 use Rattle.program.specs.Walk.{instr-misplaced, instr-short, instr-read}
+use native.Mathlib.Omega.{arith}
+use borrow.Author.Needs.{needs}
 use Rattle.program.proofs.walk.read_instr.Statement.{statement}
 use Rattle.program.proofs.walk.read_instr.Tie as tie
+use Rattle.program.proofs.walk.read_instr.Reads as reads
+use Rattle.program.proofs.walk.read_instr.Lts as lts
+use Rattle.program.proofs.body.body_at.Reads as body-at-reads
+use Rattle.program.proofs.body.read_body.Reads as read-body-reads
+
+cast-entry : tie.Need-cast-entry
+cast-entry c = search needs
 
 mul-entry : tie.Need-mul-entry
 mul-entry c = search needs
@@ -12,49 +18,29 @@ mul-entry c = search needs
 add-entry : tie.Need-add-entry
 add-entry c = search needs
 
-mul-start : tie.Need-mul-start
-mul-start c = search needs
-
-add-start : tie.Need-add-start
-add-start c = search needs
-
-word-requires : tie.Need-word-requires
-word-requires c κs = search needs
-
-add-start-2 : tie.Need-add-start-2
-add-start-2 c = search needs
+body-at-requires : tie.Need-body-at-requires
+body-at-requires c κs = search needs
 
 returns : tie.Need-returns
-returns c =
-    let a = c .before .before .before .args in
-    instr-misplaced (a .file .now) (shapeOf (a .shape)) (a .n) (a .i) (a .at) _ (c .before .word .ensures .0)
-    (c .if1 .taken)
+returns c = let a = c .before .before .before .before .args in instr-misplaced (a .file .now) (shapeOf (a .shape)) (a .n) (a .i .0) (a .at) _ (c .before .body-at .ensures .0) (c .if1 .taken)
 
 returns-2 : tie.Need-returns-2
-returns-2 c =
-    let a = c .before .before .before .before .args in
-    instr-short (a .file .now) (shapeOf (a .shape)) (a .n) (a .i) (a .at) _ (c .before .before .word .ensures .0)
-    (c .before .if1 .left) (omega arith)
+returns-2 c = let a = c .before .before .before .before .before .args in instr-short (a .file .now) (shapeOf (a .shape)) (a .n) (a .i .0) (a .at) _ (c .before .before .body-at .ensures .0) (c .before .if1 .left) (omega arith)
 
 read-body-requires : tie.Need-read-body-requires
 read-body-requires c κs = search needs
 
 returns-3 : tie.Need-returns-3
-returns-3 c =
-    let a = c .before .before .before .before .before .args in
-    instr-read (a .file .now) (shapeOf (a .shape)) (a .n) (a .i) (a .at) _ (c .before .before .before .word .ensures .0)
-    (c .before .before .if1 .left) (c .read-body .result) (omega arith) (c .read-body .ensures)
+returns-3 c = let a = c .before .before .before .before .before .before .args in instr-read (a .file .now) (shapeOf (a .shape)) (a .n) (a .i .0) (a .at) _ (c .before .before .before .body-at .ensures .0) (c .before .before .if1 .left) (c .read-body .result) (omega arith) (c .read-body .ensures)
 
 pub read-instr-spec : {M : Type 1} → statement M
 read-instr-spec =
     tie.close
     (tie.spec
+    cast-entry
     mul-entry
     add-entry
-    mul-start
-    add-start
-    word-requires
-    add-start-2
+    body-at-requires
     returns
     returns-2
     read-body-requires

@@ -1,11 +1,14 @@
--- `read_instrs` meets its contract. The loop's invariant: what is left of the walk gives the answer of the whole.
 use Prim.Native.Nat.{_-_}
-use native.Mathlib.Omega.{arith}
-use borrow.Author.Needs.{needs}
 use Rattle.base.specs.Answers.{shapeOf}
 use Rattle.program.specs.Walk.{Reached, walk-start, walk-step, walk-refused, walk-done}
+use native.Mathlib.Omega.{arith}
+use borrow.Author.Needs.{needs}
 use Rattle.program.proofs.walk.read_instrs.Statement.{statement}
 use Rattle.program.proofs.walk.read_instrs.Tie as tie
+use Rattle.program.proofs.walk.read_instrs.Reads as reads
+use Rattle.program.proofs.walk.read_instrs.Lts as lts
+use Rattle.base.proofs.kinds.Instr.of_word.Reads as of-word-reads
+use Rattle.program.proofs.walk.read_instr.Reads as read-instr-reads
 
 abbrev Inv-loop : tie.InvT-loop
 Inv-loop file shape n at₀ i₀ at i = Reached file (shapeOf shape) n i at
@@ -22,6 +25,9 @@ add-at c = search needs
 loop-holds : tie.Need-loop-holds Inv-loop μ-loop
 loop-holds c = walk-start _ _ _
 
+of-word-requires : tie.Need-of-word-requires Inv-loop μ-loop
+of-word-requires c κs = search needs
+
 read-instr-requires : tie.Need-read-instr-requires Inv-loop μ-loop
 read-instr-requires c κs = search needs
 
@@ -32,12 +38,7 @@ enum-known-x : tie.Need-enum-known-x Inv-loop μ-loop
 enum-known-x c = search needs
 
 returns : tie.Need-returns Inv-loop μ-loop
-returns c =
-    let a = c .before .before .before .before .before .before .before .args in
-    let s = c .before .before .before .before .before .loop in
-    walk-refused (a .file .now) (shapeOf (a .shape)) (a .n) (s .i) (s .at) (s .inv) (omega arith)
-    (c .before .before .before .read-instr .result) (c .before .before .before .read-instr .ensures)
-    (c .before .x .given .0 .0) (c .before .x .given .1)
+returns c = let a = c .before .before .before .before .before .before .before .before .args in let s = c .before .before .before .before .before .before .loop in walk-refused (a .file .now) (shapeOf (a .shape)) (a .n) (s .i) (s .at) (s .inv) (omega arith) (c .before .before .before .read-instr .result) (rw (c .before .before .before .before .of-word .ensures) at (c .before .before .before .read-instr .ensures)) (c .before .x .given .0 .0) (c .before .x .given .1)
 
 add-i : tie.Need-add-i Inv-loop μ-loop
 add-i c = search needs
@@ -46,16 +47,10 @@ loop-less : tie.Need-loop-less Inv-loop μ-loop
 loop-less c = search needs
 
 loop-again : tie.Need-loop-again Inv-loop μ-loop
-loop-again c =
-    let s = c .before .before .before .before .before .loop in
-    let r = c .before .before .before .read-instr in
-    walk-step _ _ _ (s .i) (s .at) (s .inv) (omega arith) (r .result) (r .ensures) _ (c .before .next .given .1)
+loop-again c = let s = c .before .before .before .before .before .before .loop in walk-step _ _ _ (s .i) (s .at) (s .inv) (omega arith) (c .before .before .before .read-instr .result) (rw (c .before .before .before .before .of-word .ensures) at (c .before .before .before .read-instr .ensures)) _ (c .before .next .given .1)
 
 returns-2 : tie.Need-returns-2 Inv-loop μ-loop
-returns-2 c =
-    let a = c .before .before .before .args in
-    let s = c .before .loop in
-    walk-done (a .file .now) (shapeOf (a .shape)) (a .n) (s .i) (s .at) (s .inv) (omega arith)
+returns-2 c = let a = c .before .before .before .args in let s = c .before .loop in walk-done (a .file .now) (shapeOf (a .shape)) (a .n) (s .i) (s .at) (s .inv) (omega arith)
 
 pub read-instrs-spec : {M : Type 1} → statement M
 read-instrs-spec =
@@ -66,6 +61,7 @@ read-instrs-spec =
     mul-at
     add-at
     loop-holds
+    of-word-requires
     read-instr-requires
     enum-known-next
     enum-known-x
