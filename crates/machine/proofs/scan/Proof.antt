@@ -16,7 +16,10 @@ enum-told : tie.Need-enum-told
 enum-told c = search needs
 
 scan-accepted-requires : tie.Need-scan-accepted-requires
-scan-accepted-requires c κs = let e : c .before .before .before .check-program .result ≡ Granted = cc in accepted-program _ (rw e at (c .before .before .before .check-program .ensures))
+scan-accepted-requires c κs =
+    let c3 = c .before .before .before in
+    let e : c3 .check-program .result ≡ Granted = cc in
+    accepted-program _ (rw e at (c3 .check-program .ensures))
 
 enum-known-x : tie.Need-enum-known-x
 enum-known-x c = search needs
@@ -28,7 +31,10 @@ returns : tie.Need-returns
 returns c = search needs
 
 returns-2 : tie.Need-returns-2
-returns-2 c = let e : c .before .before .before .check-program .result ≡ Refused (c .before .x .given .0 .0) = cc in scan-unread _ _ _ _ (rw e at (c .before .before .before .check-program .ensures))
+returns-2 c =
+    let c3 = c .before .before .before in
+    let e : c3 .check-program .result ≡ Refused (c .before .x .given .0 .0) = cc in
+    scan-unread _ _ _ _ (rw e at (c3 .check-program .ensures))
 
 pub scan-spec : {M : Type 1} → statement M
 scan-spec =

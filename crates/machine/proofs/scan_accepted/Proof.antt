@@ -29,7 +29,14 @@ word-requires : tie.Need-word-requires
 word-requires c κs = omega (arith, header-there _ (c .before .before .before .before .before .before .before .before .pre))
 
 scan-cells-requires : tie.Need-scan-cells-requires
-scan-cells-requires c κs = let e : c .before .before .before .before .check-cells .result ≡ Good = cc in runnable _ (c .before .before .before .before .before .before .before .before .before .before .pre) _ (c .before .before .before .before .before .before .before .shape-at .ensures) _ (c .before .before .before .before .before .cells .ensures) _ _ (c .before .word .ensures .0) (rw e at (c .before .before .before .before .check-cells .ensures))
+scan-cells-requires c κs =
+    let c4 = c .before .before .before .before in
+    let c5 = c4 .before in
+    let c7 = c5 .before .before in
+    let c10 = c7 .before .before .before in
+    let e : c4 .check-cells .result ≡ Good = cc in
+    runnable _ (c10 .pre) _ (c7 .shape-at .ensures) _ (c5 .cells .ensures) _ _ (c .before .word .ensures .0)
+    (rw e at (c4 .check-cells .ensures))
 
 enum-known-x : tie.Need-enum-known-x
 enum-known-x c = search needs
@@ -44,7 +51,13 @@ same-length-2 : tie.Need-same-length-2
 same-length-2 c = search needs
 
 returns-2 : tie.Need-returns-2
-returns-2 c = let e : c .before .before .before .check-cells .result ≡ Refused (c .before .x .given .0 .0) = cc in scan-unfit _ (c .before .before .before .before .before .before .before .before .before .pre) _ (c .before .before .before .before .before .before .shape-at .ensures) _ (c .before .before .before .before .cells .ensures) _ _ _ (rw e at (c .before .before .before .check-cells .ensures))
+returns-2 c =
+    let c3 = c .before .before .before in
+    let c4 = c3 .before in
+    let c6 = c4 .before .before in
+    let c9 = c6 .before .before .before in
+    let e : c3 .check-cells .result ≡ Refused (c .before .x .given .0 .0) = cc in
+    scan-unfit _ (c9 .pre) _ (c6 .shape-at .ensures) _ (c4 .cells .ensures) _ _ _ (rw e at (c3 .check-cells .ensures))
 
 pub scan-accepted-spec : {M : Type 1} → statement M
 scan-accepted-spec =

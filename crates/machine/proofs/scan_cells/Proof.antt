@@ -16,7 +16,9 @@ slice-aggregate-scan-on : tie.Need-slice-aggregate-scan-on
 slice-aggregate-scan-on c = sym (length-take-le _ _ (cells-most _ _ _ _ _ (c .before .before .before .before .pre)))
 
 scan-on-requires : tie.Need-scan-on-requires
-scan-on-requires c κs = (c .before .before .before .before .pre, sym (length-take-le _ _ (cells-most _ _ _ _ _ (c .before .before .before .before .pre))))
+scan-on-requires c κs =
+    let c4 = c .before .before .before .before in
+    (c4 .pre, sym (length-take-le _ _ (cells-most _ _ _ _ _ (c4 .pre))))
 
 same-length : tie.Need-same-length
 same-length c = search needs

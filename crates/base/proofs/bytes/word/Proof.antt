@@ -29,7 +29,12 @@ add-result : tie.Need-add-result
 add-result c = search needs
 
 returns : tie.Need-returns
-returns c = (let s = c .before .before .before .before .before .args in (omega (arith, number-two (s .file .now) (s .at), c .before .before .wide .ensures .0, c .wide2 .ensures .0), omega arith))
+returns c =
+    let c5 = c .before .before .before .before .before in
+    (let s = c5 .args in (
+      omega (arith, number-two (s .file .now) (s .at), c .before .before .wide .ensures .0, c .wide2 .ensures .0),
+      omega arith,
+    ))
 
 pub word-spec : {M : Type 1} → statement M
 word-spec =

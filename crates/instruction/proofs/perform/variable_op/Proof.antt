@@ -30,7 +30,11 @@ same-length : tie.Need-same-length
 same-length c = search needs
 
 returns : tie.Need-returns
-returns c = (c .before .before .put-cell .ensures) ∙ op-store _ _ _ _ _ _ (c .before .before .before .before .if1 .taken) (c .before .before .before .before .before .before .before .before .before .flag .ensures) (c .before .before .before .before .before .before .before .cell-at .ensures)
+returns c =
+    let c4 = c .before .before .before .before in
+    let c7 = c4 .before .before .before in
+    let c9 = c7 .before .before in
+    (c .before .before .put-cell .ensures) ∙ op-store _ _ _ _ _ _ (c4 .if1 .taken) (c9 .flag .ensures) (c7 .cell-at .ensures)
 
 either-requires : tie.Need-either-requires
 either-requires c κs = search needs
@@ -42,10 +46,22 @@ same-length-2 : tie.Need-same-length-2
 same-length-2 c = search needs
 
 returns-2 : tie.Need-returns-2
-returns-2 c = (c .before .before .put-cell2 .ensures) ∙ op-set _ _ _ _ _ _ _ _ (c .before .before .before .before .before .if2 .taken) (c .before .before .before .before .before .before .before .before .before .before .before .flag .ensures) (c .before .before .before .before .before .before .before .before .before .cell-at .ensures) (c .before .before .before .before .before .before .before .cell-at2 .ensures) (c .before .before .before .either .ensures)
+returns-2 c =
+    let c3 = c .before .before .before in
+    let c5 = c3 .before .before in
+    let c7 = c5 .before .before in
+    let c9 = c7 .before .before in
+    let c11 = c9 .before .before in
+    (c .before .before .put-cell2 .ensures)
+    ∙ op-set _ _ _ _ _ _ _ _ (c5 .if2 .taken) (c11 .flag .ensures) (c9 .cell-at .ensures) (c7 .cell-at2 .ensures)
+    (c3 .either .ensures)
 
 sub-both : tie.Need-sub-both
-sub-both c = omega (arith, c .before .before .before .before .before .before .before .before .before .before .pre .0 .storage .bits (c .before .before .before .before .before .before .before .before .flag .result .0), (c .before .before .before .before .before .before .cell-at .ensures))
+sub-both c =
+    let c6 = c .before .before .before .before .before .before in
+    let c8 = c6 .before .before in
+    let c10 = c8 .before .before in
+    omega (arith, c10 .pre .0 .storage .bits (c8 .flag .result .0), (c6 .cell-at .ensures))
 
 both-requires : tie.Need-both-requires
 both-requires c κs = search needs
@@ -57,13 +73,24 @@ same-length-3 : tie.Need-same-length-3
 same-length-3 c = search needs
 
 returns-3 : tie.Need-returns-3
-returns-3 c = (c .before .before .put-cell3 .ensures) ∙ op-res _ _ _ _ _ _ _ _ (c .before .before .before .before .before .if3 .taken) (c .before .before .before .before .before .before .before .before .before .before .before .before .flag .ensures) (c .before .before .before .before .before .before .before .before .before .before .cell-at .ensures) (c .before .before .before .before .before .before .before .before .cell-at2 .ensures) (c .before .before .before .both .ensures)
+returns-3 c =
+    let c3 = c .before .before .before in
+    let c5 = c3 .before .before in
+    let c8 = c5 .before .before .before in
+    let c10 = c8 .before .before in
+    let c12 = c10 .before .before in
+    (c .before .before .put-cell3 .ensures)
+    ∙ op-res _ _ _ _ _ _ _ _ (c5 .if3 .taken) (c12 .flag .ensures) (c10 .cell-at .ensures) (c8 .cell-at2 .ensures)
+    (c3 .both .ensures)
 
 put-cell-requires-4 : tie.Need-put-cell-requires-4
 put-cell-requires-4 c κs = search needs
 
 sub-both-2 : tie.Need-sub-both-2
-sub-both-2 c = omega (arith, c .before .before .before .before .before .before .before .before .before .before .before .before .before .before .before .pre .0 .storage .bits (c .before .before .before .before .before .before .before .before .before .before .before .before .before .before .before .args .b .0), (c .before .before .before .before .before .before .before .before .before .cell-at2 .ensures))
+sub-both-2 c =
+    let c9 = c .before .before .before .before .before .before .before .before .before in
+    let c15 = c9 .before .before .before .before .before .before in
+    omega (arith, c15 .pre .0 .storage .bits (c15 .args .b .0), (c9 .cell-at2 .ensures))
 
 both-requires-2 : tie.Need-both-requires-2
 both-requires-2 c κs = search needs
@@ -75,10 +102,23 @@ same-length-4 : tie.Need-same-length-4
 same-length-4 c = search needs
 
 returns-4 : tie.Need-returns-4
-returns-4 c = (c .before .before .put-cell5 .ensures) ∙ op-redge _ _ _ _ _ _ _ _ _ (c .before .before .before .before .before .if4 .taken) (c .before .before .before .before .before .before .before .before .before .before .before .before .before .before .before .before .before .flag .ensures) (c .before .before .before .before .before .before .before .before .before .before .before .before .before .before .before .cell-at .ensures) (c .before .before .before .before .before .before .before .before .before .before .before .before .before .cell-at2 .ensures) (c .before .before .before .both2 .ensures) (c .before .before .before .before .before .before .before .before .put-cell4 .ensures)
+returns-4 c =
+    let c3 = c .before .before .before in
+    let c5 = c3 .before .before in
+    let c8 = c5 .before .before .before in
+    let c13 = c8 .before .before .before .before .before in
+    let c15 = c13 .before .before in
+    let c17 = c15 .before .before in
+    (c .before .before .put-cell5 .ensures)
+    ∙ op-redge _ _ _ _ _ _ _ _ _ (c5 .if4 .taken) (c17 .flag .ensures) (c15 .cell-at .ensures) (c13 .cell-at2 .ensures)
+    (c3 .both2 .ensures) (c8 .put-cell4 .ensures)
 
 sub-both-3 : tie.Need-sub-both-3
-sub-both-3 c = omega (arith, c .before .before .before .before .before .before .before .before .before .before .before .before .before .before .before .pre .0 .storage .bits (c .before .before .before .before .before .before .before .before .before .before .before .before .before .flag .result .0), (c .before .before .before .before .before .before .before .before .before .before .before .cell-at .ensures))
+sub-both-3 c =
+    let c11 = c .before .before .before .before .before .before .before .before .before .before .before in
+    let c13 = c11 .before .before in
+    let c15 = c13 .before .before in
+    omega (arith, c15 .pre .0 .storage .bits (c13 .flag .result .0), (c11 .cell-at .ensures))
 
 both-requires-3 : tie.Need-both-requires-3
 both-requires-3 c κs = search needs
@@ -90,7 +130,20 @@ same-length-5 : tie.Need-same-length-5
 same-length-5 c = search needs
 
 returns-5 : tie.Need-returns-5
-returns-5 c = let q : c .before .before .before .before .before .before .before .before .before .before .before .before .before .before .before .before .before .before .before .args .code ≡ 36 = omega (arith, c .before .before .before .before .before .before .before .before .before .before .before .before .if1 .left, c .before .before .before .before .before .before .before .before .before .before .before .if2 .left, c .before .before .before .before .before .before .before .before .before .before .if3 .left, c .before .before .before .before .before .if4 .left, c .before .before .before .before .before .before .before .before .before .before .before .before .before .before .before .before .before .before .before .pre .1) in (c .before .before .put-cell6 .ensures) ∙ op-fedge (shapeOf (c .before .before .before .before .before .before .before .before .before .before .before .before .before .before .before .before .before .before .before .args .shape)) _ _ _ _ _ _ _ _ q (c .before .before .before .before .before .before .before .before .before .before .before .before .before .before .before .before .before .flag .ensures) (c .before .before .before .before .before .before .before .before .before .before .before .before .before .before .before .cell-at .ensures) (c .before .before .before .before .before .before .before .before .before .before .before .before .before .cell-at2 .ensures) (c .before .before .before .both3 .ensures) (c .before .before .before .before .before .before .before .before .put-cell4 .ensures)
+returns-5 c =
+    let c3 = c .before .before .before in
+    let c5 = c3 .before .before in
+    let c8 = c5 .before .before .before in
+    let c10 = c8 .before .before in
+    let c11 = c10 .before in
+    let c12 = c11 .before in
+    let c13 = c12 .before in
+    let c15 = c13 .before .before in
+    let c17 = c15 .before .before in
+    let c19 = c17 .before .before in
+    let q : c19 .args .code ≡ 36 = omega (arith, c12 .if1 .left, c11 .if2 .left, c10 .if3 .left, c5 .if4 .left, c19 .pre .1) in
+    (c .before .before .put-cell6 .ensures) ∙ op-fedge (shapeOf (c19 .args .shape)) _ _ _ _ _ _ _ _ q (c17 .flag .ensures)
+    (c15 .cell-at .ensures) (c13 .cell-at2 .ensures) (c3 .both3 .ensures) (c8 .put-cell4 .ensures)
 
 pub variable-op-spec : {M : Type 1} → statement M
 variable-op-spec =

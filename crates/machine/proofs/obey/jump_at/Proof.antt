@@ -18,34 +18,72 @@ add-word : tie.Need-add-word
 add-word c = search needs
 
 word-requires : tie.Need-word-requires
-word-requires c κs = label-there _ _ _ _ _ (c .before .before .before .pre .0) _ (c .before .before .before .pre .1 .0) _ refl (c .before .before .before .pre .1 .2)
+word-requires c κs =
+    let c3 = c .before .before .before in
+    label-there _ _ _ _ _ (c3 .pre .0) _ (c3 .pre .1 .0) _ refl (c3 .pre .1 .2)
 
 of-word-requires : tie.Need-of-word-requires
 of-word-requires c κs = search needs
 
 returns : tie.Need-returns
-returns c = obeys-jp _ _ _ _ _ (c .before .before .before .before .before .before .pre .0) _ (c .before .before .before .before .before .before .pre .1 .0) _ refl (c .before .before .before .before .before .before .pre .1 .2) _ ((c .before .of-word .ensures) ∙ (c .before .before .word .ensures .0)) (c .if1 .taken)
+returns c =
+    let c6 = c .before .before .before .before .before .before in
+    obeys-jp _ _ _ _ _ (c6 .pre .0) _ (c6 .pre .1 .0) _ refl (c6 .pre .1 .2) _
+    ((c .before .of-word .ensures) ∙ (c .before .before .word .ensures .0)) (c .if1 .taken)
 
 returns-2 : tie.Need-returns-2
-returns-2 c = obeys-js _ _ _ _ _ (c .before .before .before .before .before .before .before .pre .0) _ (c .before .before .before .before .before .before .before .pre .1 .0) _ refl (c .before .before .before .before .before .before .before .pre .1 .2) _ ((c .before .before .of-word .ensures) ∙ (c .before .before .before .word .ensures .0)) (c .if2 .taken)
+returns-2 c =
+    let c3 = c .before .before .before in
+    let c7 = c3 .before .before .before .before in
+    obeys-js _ _ _ _ _ (c7 .pre .0) _ (c7 .pre .1 .0) _ refl (c7 .pre .1 .2) _
+    ((c .before .before .of-word .ensures) ∙ (c3 .word .ensures .0)) (c .if2 .taken)
 
 flag-requires : tie.Need-flag-requires
 flag-requires c κs = omega (arith, fitting _ _ _ _ _ (c .before .before .before .before .before .before .before .pre .0) .most)
 
 cell-at-requires : tie.Need-cell-at-requires
-cell-at-requires c κs = omega (arith, fitting _ _ _ _ _ (c .before .before .before .before .before .before .before .before .pre .0) .storage .size, (c .flag .ensures))
+cell-at-requires c κs =
+    let c8 = c .before .before .before .before .before .before .before .before in
+    omega (arith, fitting _ _ _ _ _ (c8 .pre .0) .storage .size, (c .flag .ensures))
 
 add-t15 : tie.Need-add-t15
-add-t15 c = omega (arith, (c .before .before .before .before .before .before .before .before .before .before .before .pre .0) .low, (c .before .before .before .before .before .before .before .before .before .before .before .pre .0) .most)
+add-t15 c =
+    let c11 = c .before .before .before .before .before .before .before .before .before .before .before in
+    omega (arith, (c11 .pre .0) .low, (c11 .pre .0) .most)
 
 returns-3 : tie.Need-returns-3
-returns-3 c = obeys-stay _ _ _ _ _ (c .before .before .before .before .before .before .before .before .before .before .before .pre .0) _ (c .before .before .before .before .before .before .before .before .before .before .before .pre .1 .0) _ refl (c .before .before .before .before .before .before .before .before .before .before .before .pre .1 .2) _ ((c .before .before .before .before .before .before .of-word .ensures) ∙ (c .before .before .before .before .before .before .before .word .ensures .0)) _ _ (c .before .before .before .flag .ensures) (c .before .before .cell-at .ensures) (c .before .before .before .before .before .if1 .left) (c .before .before .before .before .if2 .left) (c .before .if3 .taken) _ refl
+returns-3 c =
+    let c3 = c .before .before .before in
+    let c4 = c3 .before in
+    let c5 = c4 .before in
+    let c6 = c5 .before in
+    let c7 = c6 .before in
+    let c11 = c7 .before .before .before .before in
+    obeys-stay _ _ _ _ _ (c11 .pre .0) _ (c11 .pre .1 .0) _ refl (c11 .pre .1 .2) _
+    ((c6 .of-word .ensures) ∙ (c7 .word .ensures .0)) _ _ (c3 .flag .ensures) (c .before .before .cell-at .ensures)
+    (c5 .if1 .left) (c4 .if2 .left) (c .before .if3 .taken) _ refl
 
 returns-4 : tie.Need-returns-4
-returns-4 c = obeys-jpc _ _ _ _ _ (c .before .before .before .before .before .before .before .before .before .before .before .pre .0) _ (c .before .before .before .before .before .before .before .before .before .before .before .pre .1 .0) _ refl (c .before .before .before .before .before .before .before .before .before .before .before .pre .1 .2) _ ((c .before .before .before .before .before .before .of-word .ensures) ∙ (c .before .before .before .before .before .before .before .word .ensures .0)) _ _ (c .before .before .before .flag .ensures) (c .before .before .cell-at .ensures) (c .if4 .taken) (c .before .if3 .left)
+returns-4 c =
+    let c3 = c .before .before .before in
+    let c6 = c3 .before .before .before in
+    let c7 = c6 .before in
+    let c11 = c7 .before .before .before .before in
+    obeys-jpc _ _ _ _ _ (c11 .pre .0) _ (c11 .pre .1 .0) _ refl (c11 .pre .1 .2) _
+    ((c6 .of-word .ensures) ∙ (c7 .word .ensures .0)) _ _ (c3 .flag .ensures) (c .before .before .cell-at .ensures)
+    (c .if4 .taken) (c .before .if3 .left)
 
 returns-5 : tie.Need-returns-5
-returns-5 c = obeys-jsc _ _ _ _ _ (c .before .before .before .before .before .before .before .before .before .before .before .pre .0) _ (c .before .before .before .before .before .before .before .before .before .before .before .pre .1 .0) _ refl (c .before .before .before .before .before .before .before .before .before .before .before .pre .1 .2) _ ((c .before .before .before .before .before .before .of-word .ensures) ∙ (c .before .before .before .before .before .before .before .word .ensures .0)) _ _ (c .before .before .before .flag .ensures) (c .before .before .cell-at .ensures) (c .before .before .before .before .before .if1 .left) (c .if4 .left) (c .before .before .before .before .if2 .left) (c .before .if3 .left)
+returns-5 c =
+    let c3 = c .before .before .before in
+    let c4 = c3 .before in
+    let c5 = c4 .before in
+    let c6 = c5 .before in
+    let c7 = c6 .before in
+    let c11 = c7 .before .before .before .before in
+    obeys-jsc _ _ _ _ _ (c11 .pre .0) _ (c11 .pre .1 .0) _ refl (c11 .pre .1 .2) _
+    ((c6 .of-word .ensures) ∙ (c7 .word .ensures .0)) _ _ (c3 .flag .ensures) (c .before .before .cell-at .ensures)
+    (c5 .if1 .left) (c .if4 .left) (c4 .if2 .left) (c .before .if3 .left)
 
 pub jump-at-spec : {M : Type 1} → statement M
 jump-at-spec =

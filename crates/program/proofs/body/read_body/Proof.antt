@@ -62,9 +62,11 @@ returns c =
 
 returns-2 : tie.Need-returns-2
 returns-2 c =
-    let a = c .before .before .before .before .before .before .before .args in
-    ends-expr (a .file .now) (shapeOf (a .shape)) (a .n) (a .i .0) (a .at)
-    (c .read-expr .result) (sym (c .before .before .enum-told2 .given .1) ∙ c .before .before .before .before .asked-by .ensures)
+    let c4 = c .before .before .before .before in
+    let c7 = c4 .before .before .before in
+    let a = c7 .args in
+    ends-expr (a .file .now) (shapeOf (a .shape)) (a .n) (a .i .0) (a .at) (c .read-expr .result)
+    (sym (c .before .before .enum-told2 .given .1) ∙ c4 .asked-by .ensures)
     (rw (c .before .vars .ensures) at (c .read-expr .ensures))
 
 returns-3 : tie.Need-returns-3

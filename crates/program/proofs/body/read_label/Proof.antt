@@ -26,13 +26,19 @@ may-jump-requires : tie.Need-may-jump-requires
 may-jump-requires c κs = search needs
 
 returns-2 : tie.Need-returns-2
-returns-2 c = label-refused _ _ _ _ _ _ (omega arith) ((c .before .before .of-word .ensures) ∙ (c .before .before .before .word .ensures .0)) (c .before .may-jump .ensures) (c .if2 .taken)
+returns-2 c =
+    let c3 = c .before .before .before in
+    label-refused _ _ _ _ _ _ (omega arith) ((c .before .before .of-word .ensures) ∙ (c3 .word .ensures .0))
+    (c .before .may-jump .ensures) (c .if2 .taken)
 
 add-t6 : tie.Need-add-t6
 add-t6 c = search needs
 
 returns-3 : tie.Need-returns-3
-returns-3 c = label-read _ _ _ _ _ _ (omega arith) ((c .before .before .of-word .ensures) ∙ (c .before .before .before .word .ensures .0)) (c .before .may-jump .ensures) (c .if2 .left)
+returns-3 c =
+    let c3 = c .before .before .before in
+    label-read _ _ _ _ _ _ (omega arith) ((c .before .before .of-word .ensures) ∙ (c3 .word .ensures .0))
+    (c .before .may-jump .ensures) (c .if2 .left)
 
 pub read-label-spec : {M : Type 1} → statement M
 read-label-spec =

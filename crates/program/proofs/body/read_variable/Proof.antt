@@ -21,13 +21,16 @@ may-write-requires : tie.Need-may-write-requires
 may-write-requires c κs = search needs
 
 returns-2 : tie.Need-returns-2
-returns-2 c = variable-refused _ _ _ _ _ (omega arith) (c .before .before .of-byte .ensures) (c .before .may-write .ensures) (c .if2 .taken)
+returns-2 c =
+    variable-refused _ _ _ _ _ (omega arith) (c .before .before .of-byte .ensures) (c .before .may-write .ensures)
+    (c .if2 .taken)
 
 add-t4 : tie.Need-add-t4
 add-t4 c = search needs
 
 returns-3 : tie.Need-returns-3
-returns-3 c = variable-read _ _ _ _ _ (omega arith) (c .before .before .of-byte .ensures) (c .before .may-write .ensures) (c .if2 .left)
+returns-3 c =
+    variable-read _ _ _ _ _ (omega arith) (c .before .before .of-byte .ensures) (c .before .may-write .ensures) (c .if2 .left)
 
 pub read-variable-spec : {M : Type 1} → statement M
 read-variable-spec =

@@ -22,16 +22,29 @@ body-at-requires : tie.Need-body-at-requires
 body-at-requires c κs = search needs
 
 returns : tie.Need-returns
-returns c = let a = c .before .before .before .before .args in instr-misplaced (a .file .now) (shapeOf (a .shape)) (a .n) (a .i .0) (a .at) _ (c .before .body-at .ensures .0) (c .if1 .taken)
+returns c =
+    let c4 = c .before .before .before .before in
+    let a = c4 .args in
+    instr-misplaced (a .file .now) (shapeOf (a .shape)) (a .n) (a .i .0) (a .at) _ (c .before .body-at .ensures .0)
+    (c .if1 .taken)
 
 returns-2 : tie.Need-returns-2
-returns-2 c = let a = c .before .before .before .before .before .args in instr-short (a .file .now) (shapeOf (a .shape)) (a .n) (a .i .0) (a .at) _ (c .before .before .body-at .ensures .0) (c .before .if1 .left) (omega arith)
+returns-2 c =
+    let c5 = c .before .before .before .before .before in
+    let a = c5 .args in
+    instr-short (a .file .now) (shapeOf (a .shape)) (a .n) (a .i .0) (a .at) _ (c .before .before .body-at .ensures .0)
+    (c .before .if1 .left) (omega arith)
 
 read-body-requires : tie.Need-read-body-requires
 read-body-requires c κs = search needs
 
 returns-3 : tie.Need-returns-3
-returns-3 c = let a = c .before .before .before .before .before .before .args in instr-read (a .file .now) (shapeOf (a .shape)) (a .n) (a .i .0) (a .at) _ (c .before .before .before .body-at .ensures .0) (c .before .before .if1 .left) (c .read-body .result) (omega arith) (c .read-body .ensures)
+returns-3 c =
+    let c3 = c .before .before .before in
+    let c6 = c3 .before .before .before in
+    let a = c6 .args in
+    instr-read (a .file .now) (shapeOf (a .shape)) (a .n) (a .i .0) (a .at) _ (c3 .body-at .ensures .0)
+    (c .before .before .if1 .left) (c .read-body .result) (omega arith) (c .read-body .ensures)
 
 pub read-instr-spec : {M : Type 1} → statement M
 read-instr-spec =

@@ -38,7 +38,15 @@ enum-known-x : tie.Need-enum-known-x Inv-loop μ-loop
 enum-known-x c = search needs
 
 returns : tie.Need-returns Inv-loop μ-loop
-returns c = let a = c .before .before .before .before .before .before .before .before .args in let s = c .before .before .before .before .before .before .loop in walk-refused (a .file .now) (shapeOf (a .shape)) (a .n) (s .i) (s .at) (s .inv) (omega arith) (c .before .before .before .read-instr .result) (rw (c .before .before .before .before .of-word .ensures) at (c .before .before .before .read-instr .ensures)) (c .before .x .given .0 .0) (c .before .x .given .1)
+returns c =
+    let c3 = c .before .before .before in
+    let c4 = c3 .before in
+    let c6 = c4 .before .before in
+    let c8 = c6 .before .before in
+    let a = c8 .args in
+    let s = c6 .loop in
+    walk-refused (a .file .now) (shapeOf (a .shape)) (a .n) (s .i) (s .at) (s .inv) (omega arith) (c3 .read-instr .result)
+    (rw (c4 .of-word .ensures) at (c3 .read-instr .ensures)) (c .before .x .given .0 .0) (c .before .x .given .1)
 
 add-i : tie.Need-add-i Inv-loop μ-loop
 add-i c = search needs
@@ -47,10 +55,20 @@ loop-less : tie.Need-loop-less Inv-loop μ-loop
 loop-less c = search needs
 
 loop-again : tie.Need-loop-again Inv-loop μ-loop
-loop-again c = let s = c .before .before .before .before .before .before .loop in walk-step _ _ _ (s .i) (s .at) (s .inv) (omega arith) (c .before .before .before .read-instr .result) (rw (c .before .before .before .before .of-word .ensures) at (c .before .before .before .read-instr .ensures)) _ (c .before .next .given .1)
+loop-again c =
+    let c3 = c .before .before .before in
+    let c4 = c3 .before in
+    let c6 = c4 .before .before in
+    let s = c6 .loop in
+    walk-step _ _ _ (s .i) (s .at) (s .inv) (omega arith) (c3 .read-instr .result)
+    (rw (c4 .of-word .ensures) at (c3 .read-instr .ensures)) _ (c .before .next .given .1)
 
 returns-2 : tie.Need-returns-2 Inv-loop μ-loop
-returns-2 c = let a = c .before .before .before .args in let s = c .before .loop in walk-done (a .file .now) (shapeOf (a .shape)) (a .n) (s .i) (s .at) (s .inv) (omega arith)
+returns-2 c =
+    let c3 = c .before .before .before in
+    let a = c3 .args in
+    let s = c .before .loop in
+    walk-done (a .file .now) (shapeOf (a .shape)) (a .n) (s .i) (s .at) (s .inv) (omega arith)
 
 pub read-instrs-spec : {M : Type 1} → statement M
 read-instrs-spec =
