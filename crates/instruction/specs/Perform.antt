@@ -1,4 +1,4 @@
--- Which instruction a code is, and what performing it asks for.
+-- What performing an instruction asks for, and what one with an expression leaves.
 use Prim.Native.Nat.{ℕ, _-_, _≤_, min, max}
 use mathlib.Core.List.{List, [], _∷_}
 use lib.ListN.{getD, set}
@@ -13,7 +13,7 @@ pub record Fitting (sh : Shape) (s : List ℕ) : Type 0 where
   pub deep : 2 ≤ sh .depth
   pub most : R.vars (shapeOf sh) ≤ 200
 
--- R17, R19: the bytes after it, where x is the value of the expression.
+-- R17, R19: the bytes after the instruction of a code that takes an expression, where x is the expression's value.
 abbrev pub onValue : R.Shape → List ℕ → ℕ → ℕ → List ℕ
 onValue sh s c x =
     let f = R.flag sh in

@@ -1,5 +1,5 @@
 -- What evaluating an expression in the bytes of a program asks for and gives.
-use Prim.Native.Nat.{ℕ, _≤_}
+use Prim.Native.Nat.{ℕ, _≤_, min, max}
 use mathlib.Core.Path.{_≡_}
 use mathlib.Core.Bool.{cond}
 use mathlib.Core.List.{List}
@@ -32,4 +32,4 @@ pub record Values (file s : List ℕ) (v stop p : ℕ) (r : Valued) : Type 0 whe
 
 -- R11: AND (253) or OR of two bits that are bytes.
 abbrev pub joined : ℕ → ℕ → ℕ → ℕ
-joined b x y = cond (eqb b 253) (cond (eqb x 1) y 0) (cond (eqb x 1) 1 y)
+joined b x y = cond (eqb b 253) (min x y) (max x y)

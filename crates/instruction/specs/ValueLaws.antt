@@ -1,6 +1,6 @@
 -- What the first byte of an expression tells, and the value that follows from the values of its operands.
-use Prim.Native.Nat.{ℕ, zero, suc, _+_, _-_, _≤_, _<_}
-use mathlib.Core.Path.{_≡_, refl, sym, ap, ap₂, _∙_}
+use Prim.Native.Nat.{ℕ, zero, suc, _+_, _-_, _≤_, _<_, min, max}
+use mathlib.Core.Path.{_≡_, sym, ap, ap₂, _∙_}
 use mathlib.Core.Bool.{Bool, true, false, cond}
 use mathlib.Core.List.{List}
 use mathlib.Core.Logic.{_⊎_, inl, inr}
@@ -15,7 +15,7 @@ use Rattle.rules.specs.Expr.{Exp, con, cell, neg, bin, op, eval, Read, Announce
 use Rattle.rules.specs.Operations.{bit}
 use Rattle.laws.specs.Verdict.{bind-granted, check-granted, Grants, grants, refuses, grants-of, grants-bind, grants-check}
 use Rattle.storage.specs.Cells.{bitsOf}
-use Rattle.storage.specs.Stores.{bit-eqb, bit-not, cell-byte}
+use Rattle.storage.specs.Stores.{bit-eqb, bit-not, bit-and, bit-or, cell-byte}
 use Rattle.instruction.specs.declared.eval.Valued.{Valued}
 use Rattle.instruction.specs.Value.{Reads, Readable, Values, joined}
 
@@ -140,18 +140,12 @@ announces-two v b m h g = elim (decLt b 254) [
 
 -- ---- evaluating
 
-bit-small : (b : Bool) → bit b ≤ 1
-bit-small true = omega arith
-bit-small false = omega arith
-
 bit-join : (b : ℕ) (x y : Bool) → joined b (bit x) (bit y) ≡ bit (op (eqb b 253) x y)
-bit-join b x y = go (eqb b 253) x y
+bit-join b x y = go (eqb b 253)
   where
-    go : (o x y : Bool) → cond o (cond (eqb (bit x) 1) (bit y) 0) (cond (eqb (bit x) 1) 1 (bit y)) ≡ bit (op o x y)
-    go true true y = refl
-    go true false y = refl
-    go false true y = refl
-    go false false y = refl
+    go : (o : Bool) → cond o (min (bit x) (bit y)) (max (bit x) (bit y)) ≡ bit (op o x y)
+    go true = sym (bit-and x y)
+    go false = sym (bit-or x y)
 
 -- The value of what was read, as a byte.
 abbrev worth : List ℕ → Read Exp → ℕ
@@ -270,10 +264,8 @@ module _ (file s : List ℕ) (v stop p : ℕ) (r : Readable file s v stop p) whe
       first t = (rw add-one at w) .place (t .0) (t .2)
 
       joined-small : (x y : ℕ) → x ≤ 1 → y ≤ 1 → joined b x y ≤ 1
-      joined-small x y hx hy = go (eqb b 253) (eqb x 1)
+      joined-small x y hx hy = go (eqb b 253)
         where
-          go : (o c : Bool) → cond o (cond c y 0) (cond c 1 y) ≤ 1
-          go true true = hy
-          go true false = omega arith
-          go false true = omega arith
-          go false false = hy
+          go : (o : Bool) → cond o (min x y) (max x y) ≤ 1
+          go true = omega arith
+          go false = omega arith

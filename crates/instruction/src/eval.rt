@@ -1,4 +1,6 @@
 // The value of an expression on a storage.
+use crate::bits::both;
+use crate::bits::either;
 use base::bytes::wide;
 ghost use mathlib.Core.Path.{_≡_};
 ghost use Prim.Native.Nat.{ℕ, _≤_};
@@ -48,8 +50,7 @@ fn join(b: u8, x: u8, y: u8) -> u8
     ensures { λ r. ⌜ r ≡ joined b x y ⌝ }
 {
     if b == 253 {
-        if x == 1 { y } else { 0 }
-    } else {
-        if x == 1 { 1 } else { y }
+        return both(x, y);
     }
+    either(x, y)
 }

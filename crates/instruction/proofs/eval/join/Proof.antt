@@ -1,20 +1,23 @@
 use borrow.Author.Tests.{eq-eqb, ne-eqb}
+use borrow.Author.Needs.{needs}
 use Rattle.instruction.proofs.eval.join.Statement.{statement}
 use Rattle.instruction.proofs.eval.join.Tie as tie
 use Rattle.instruction.proofs.eval.join.Reads as reads
 use Rattle.instruction.proofs.eval.join.Lts as lts
+use Rattle.instruction.proofs.bits.both.Reads as both-reads
+use Rattle.instruction.proofs.bits.either.Reads as either-reads
+
+both-requires : tie.Need-both-requires
+both-requires c κs = search needs
 
 returns : tie.Need-returns
-returns c = simp (eq-eqb _ _ (c .before .if1 .taken), eq-eqb _ _ (c .if2 .taken))
+returns c = simp (eq-eqb _ _ (c .before .if1 .taken), c .both .ensures)
+
+either-requires : tie.Need-either-requires
+either-requires c κs = search needs
 
 returns-2 : tie.Need-returns-2
-returns-2 c = simp (eq-eqb _ _ (c .before .if1 .taken), ne-eqb _ _ (c .if2 .left))
-
-returns-3 : tie.Need-returns-3
-returns-3 c = simp (ne-eqb _ _ (c .before .if1 .left), eq-eqb _ _ (c .if3 .taken))
-
-returns-4 : tie.Need-returns-4
-returns-4 c = simp (ne-eqb _ _ (c .before .if1 .left), ne-eqb _ _ (c .if3 .left))
+returns-2 c = simp (ne-eqb _ _ (c .before .if1 .left), c .either .ensures)
 
 pub join-spec : {M : Type 1} → statement M
-join-spec = tie.close (tie.spec returns returns-2 returns-3 returns-4)
+join-spec = tie.close (tie.spec both-requires returns either-requires returns-2)
