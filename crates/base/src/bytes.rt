@@ -2,7 +2,6 @@
 ghost use mathlib.Core.Path.{_≡_};
 ghost use Prim.Native.Nat.{_+_, _<_, _≤_};
 ghost use Rattle.rules.specs.Lists.{numberAt};
-ghost use lib.ListN.{length};
 
 // A byte as a number.
 pub fn wide(b: u8) -> usize

@@ -1,6 +1,6 @@
 // Reads the fields of a case from standard input.
 ghost use mathlib.Core.Path.{_≡_};
-ghost use Prim.Native.Nat.{ℕ, _≤_, _<_};
+ghost use Prim.Native.Nat.{_≤_, _<_};
 ghost use lib.ListN.{length};
 ghost use Rattle.rules.specs.Lists.{numberAt};
 ghost use Rattle.cases.specs.Fields.{Fits};

@@ -3,8 +3,6 @@ use crate::bits::both;
 use crate::bits::either;
 use base::bytes::wide;
 ghost use mathlib.Core.Path.{_≡_};
-ghost use Prim.Native.Nat.{ℕ, _≤_};
-ghost use lib.ListN.{length};
 ghost use Rattle.instruction.specs.Value.{Readable, Values, joined};
 
 // A bit, and the place after the expression that it is the value of.

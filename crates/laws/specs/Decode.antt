@@ -1,19 +1,19 @@
 -- Where an accepted program's instruction i stands: at the place its entry gives, so it can be decoded there without a walk.
 use Prim.Native.Nat.{ℕ, zero, suc, _+_, _-_, _≤_, _<_}
-use mathlib.Core.Path.{_≡_, refl, sym, ap, _∙_}
-use mathlib.Core.Bool.{Bool, true, false, not}
-use mathlib.Core.List.{List, [], _∷_}
+use mathlib.Core.Path.{_≡_, refl, sym, ap}
+use mathlib.Core.Bool.{not}
+use mathlib.Core.List.{List, _∷_}
 use native.Mathlib.Omega.{arith}
 use native.Mathlib.Nat.{zero-add, add-zero, add-suc, suc-add}
 use lib.ListN.{length, getD}
 use lib.Dec.{leb, ltb, eqb}
 use borrow.Author.Tests.{eqb-true, leb-false, ltb-false, not-false}
-use Rattle.rules.specs.Verdict.{Verdict, granted}
+use Rattle.rules.specs.Verdict.{granted}
 use Rattle.rules.specs.Lists.{numberAt}
-use Rattle.rules.specs.Edition.{Edition, countAt, headerEnd, mostInstrs}
+use Rattle.rules.specs.Edition.{Edition, countAt, mostInstrs}
 use Rattle.rules.specs.Shape.{Shape, vars, shapeAt, readHeader}
 use Rattle.rules.specs.Expr.{Exp, Read, readExpr}
-use Rattle.rules.specs.Instr.{Plain, Instr, plain, END}
+use Rattle.rules.specs.Instr.{Instr, plain, END}
 use Rattle.rules.specs.ProgramFile.{Program, Form, alone, withExpr, withVar, withLabel, unknown, codes, formOf, isEnd}
 use Rattle.rules.specs.ProgramFile.{entryAt, bodyAt, readBody, readInstr, readInstrs, readProgram}
 use Rattle.laws.specs.Shape.{header-granted}

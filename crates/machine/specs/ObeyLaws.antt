@@ -12,7 +12,6 @@ use borrow.Author.Tests.{eq-eqb, ne-eqb}
 use Rattle.rules.specs.Lists.{numberAt}
 use Rattle.rules.specs.Edition.{old}
 use Rattle.rules.specs.Shape.{vars, flag}
-use Rattle.rules.specs.Instr as I
 use Rattle.rules.specs.Instr.{Plain, INIT, plain, END}
 use Rattle.rules.specs.ProgramFile.{entryAt, bodyAt}
 use Rattle.rules.specs.Machine.{due, obey, perform}

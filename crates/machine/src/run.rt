@@ -3,7 +3,6 @@ use crate::obey::Move;
 use crate::obey::obey;
 use base::kinds::Instr;
 use base::shape::Shape;
-ghost use mathlib.Core.Path.{_≡_};
 ghost use Rattle.machine.specs.Run.{Runnable, Ends};
 
 // How a run from an instruction ended.

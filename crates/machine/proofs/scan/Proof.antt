@@ -4,10 +4,6 @@ use Rattle.machine.specs.ScanLaws.{accepted-program, scan-unread}
 use borrow.Author.Needs.{needs}
 use Rattle.machine.proofs.scan.Statement.{statement}
 use Rattle.machine.proofs.scan.Tie as tie
-use Rattle.machine.proofs.scan.Reads as reads
-use Rattle.machine.proofs.scan.Lts as lts
-use Rattle.machine.proofs.scan_accepted.Reads as scan-accepted-reads
-use Rattle.program.proofs.check_program.Reads as check-program-reads
 
 check-program-requires : tie.Need-check-program-requires
 check-program-requires c κs = search needs

@@ -5,13 +5,6 @@ use native.Mathlib.Omega.{arith}
 use borrow.Author.Needs.{needs}
 use Rattle.machine.proofs.scan_accepted.Statement.{statement}
 use Rattle.machine.proofs.scan_accepted.Tie as tie
-use Rattle.machine.proofs.scan_accepted.Reads as reads
-use Rattle.machine.proofs.scan_accepted.Lts as lts
-use Rattle.base.proofs.bytes.word.Reads as word-reads
-use Rattle.base.proofs.shape.Shape.cells.Reads as cells-reads
-use Rattle.machine.proofs.scan_cells.Reads as scan-cells-reads
-use Rattle.program.proofs.header.shape_at.Reads as shape-at-reads
-use Rattle.storage.proofs.check_cells.Reads as check-cells-reads
 
 shape-at-requires : tie.Need-shape-at-requires
 shape-at-requires c κs = header-there _ (c .before .before .pre)

@@ -5,9 +5,6 @@ use native.Mathlib.Omega.{arith}
 use borrow.Author.Needs.{needs}
 use Rattle.machine.proofs.scan_cells.Statement.{statement}
 use Rattle.machine.proofs.scan_cells.Tie as tie
-use Rattle.machine.proofs.scan_cells.Reads as reads
-use Rattle.machine.proofs.scan_cells.Lts as lts
-use Rattle.machine.proofs.scan_on.Reads as scan-on-reads
 
 array-borrow-prefix-copy : tie.Need-array-borrow-prefix-copy
 array-borrow-prefix-copy c = omega (arith, cells-most _ _ _ _ _ (c .before .before .before .pre))

@@ -6,10 +6,6 @@ use native.Mathlib.Omega.{arith}
 use borrow.Author.Needs.{needs}
 use Rattle.machine.proofs.scan_on.Statement.{statement}
 use Rattle.machine.proofs.scan_on.Tie as tie
-use Rattle.machine.proofs.scan_on.Reads as reads
-use Rattle.machine.proofs.scan_on.Lts as lts
-use Rattle.machine.proofs.run.run_from.Reads as run-from-reads
-use Rattle.storage.proofs.copy_cells.Reads as copy-cells-reads
 
 copy-cells-requires : tie.Need-copy-cells-requires
 copy-cells-requires c κs = search needs

@@ -3,9 +3,6 @@ use native.Mathlib.Omega.{arith}
 use borrow.Author.Needs.{needs}
 use Rattle.base.proofs.bytes.word.Statement.{statement}
 use Rattle.base.proofs.bytes.word.Tie as tie
-use Rattle.base.proofs.bytes.word.Reads as reads
-use Rattle.base.proofs.bytes.word.Lts as lts
-use Rattle.base.proofs.bytes.wide.Reads as wide-reads
 
 shared-slice-read-wide : tie.Need-shared-slice-read-wide
 shared-slice-read-wide c = search needs

@@ -5,8 +5,6 @@ use native.Mathlib.Omega.{arith}
 use borrow.Author.Needs.{needs}
 use Rattle.base.proofs.work.clear_bytes.Statement.{statement}
 use Rattle.base.proofs.work.clear_bytes.Tie as tie
-use Rattle.base.proofs.work.clear_bytes.Reads as reads
-use Rattle.base.proofs.work.clear_bytes.Lts as lts
 
 abbrev Inv-loop : tie.InvT-loop
 Inv-loop work₀ i₀ work i = Clearing work₀ work i

@@ -2,10 +2,6 @@ use borrow.Author.Tests.{eq-eqb, ne-eqb}
 use borrow.Author.Needs.{needs}
 use Rattle.instruction.proofs.eval.join.Statement.{statement}
 use Rattle.instruction.proofs.eval.join.Tie as tie
-use Rattle.instruction.proofs.eval.join.Reads as reads
-use Rattle.instruction.proofs.eval.join.Lts as lts
-use Rattle.instruction.proofs.bits.both.Reads as both-reads
-use Rattle.instruction.proofs.bits.either.Reads as either-reads
 
 both-requires : tie.Need-both-requires
 both-requires c κs = search needs

@@ -6,13 +6,6 @@ use native.Mathlib.Omega.{arith}
 use borrow.Author.Needs.{needs}
 use Rattle.instruction.proofs.perform.stack_op.Statement.{statement}
 use Rattle.instruction.proofs.perform.stack_op.Tie as tie
-use Rattle.instruction.proofs.perform.stack_op.Reads as reads
-use Rattle.instruction.proofs.perform.stack_op.Lts as lts
-use Rattle.base.proofs.shape.Shape.flag.Reads as flag-reads
-use Rattle.storage.proofs.cell_at.Reads as cell-at-reads
-use Rattle.storage.proofs.drop_top.Reads as drop-top-reads
-use Rattle.storage.proofs.push.Reads as push-reads
-use Rattle.storage.proofs.put_cell.Reads as put-cell-reads
 
 flag-requires : tie.Need-flag-requires
 flag-requires c κs = search needs

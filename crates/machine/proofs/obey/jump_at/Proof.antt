@@ -4,12 +4,6 @@ use native.Mathlib.Omega.{arith}
 use borrow.Author.Needs.{needs}
 use Rattle.machine.proofs.obey.jump_at.Statement.{statement}
 use Rattle.machine.proofs.obey.jump_at.Tie as tie
-use Rattle.machine.proofs.obey.jump_at.Reads as reads
-use Rattle.machine.proofs.obey.jump_at.Lts as lts
-use Rattle.base.proofs.bytes.word.Reads as word-reads
-use Rattle.base.proofs.kinds.Instr.of_word.Reads as of-word-reads
-use Rattle.base.proofs.shape.Shape.flag.Reads as flag-reads
-use Rattle.storage.proofs.cell_at.Reads as cell-at-reads
 
 shared-slice-read-code : tie.Need-shared-slice-read-code
 shared-slice-read-code c = inside _ _ _ _ _ (c .before .before .before .pre .0) _ (c .before .before .before .pre .1 .0)

@@ -4,13 +4,6 @@ use native.Mathlib.Omega.{arith}
 use borrow.Author.Needs.{needs}
 use Rattle.machine.proofs.obey.obey.Statement.{statement}
 use Rattle.machine.proofs.obey.obey.Tie as tie
-use Rattle.machine.proofs.obey.obey.Reads as reads
-use Rattle.machine.proofs.obey.obey.Lts as lts
-use Rattle.base.proofs.shape.Shape.flag.Reads as flag-reads
-use Rattle.program.proofs.body.body_at.Reads as body-at-reads
-use Rattle.machine.proofs.obey.jump_at.Reads as jump-at-reads
-use Rattle.machine.proofs.obey.perform_at.Reads as perform-at-reads
-use Rattle.storage.proofs.reset.Reads as reset-reads
 
 body-at-requires : tie.Need-body-at-requires
 body-at-requires c κs =

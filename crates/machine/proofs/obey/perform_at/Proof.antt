@@ -4,15 +4,6 @@ use native.Mathlib.Omega.{arith}
 use borrow.Author.Needs.{needs}
 use Rattle.machine.proofs.obey.perform_at.Statement.{statement}
 use Rattle.machine.proofs.obey.perform_at.Tie as tie
-use Rattle.machine.proofs.obey.perform_at.Reads as reads
-use Rattle.machine.proofs.obey.perform_at.Lts as lts
-use Rattle.base.proofs.kinds.Cell.of_byte.Reads as of-byte-reads
-use Rattle.base.proofs.shape.Shape.vars.Reads as vars-reads
-use Rattle.instruction.proofs.eval.value_at.Reads as value-at-reads
-use Rattle.instruction.proofs.perform.flag_op.Reads as flag-op-reads
-use Rattle.instruction.proofs.perform.stack_op.Reads as stack-op-reads
-use Rattle.instruction.proofs.perform.value_op.Reads as value-op-reads
-use Rattle.instruction.proofs.perform.variable_op.Reads as variable-op-reads
 
 shared-slice-read-code : tie.Need-shared-slice-read-code
 shared-slice-read-code c = inside _ _ _ _ _ (c .before .before .before .pre .0) _ (c .before .before .before .pre .1 .0 .0)

@@ -2,8 +2,6 @@ use borrow.Author.Tests.{lt-ltb, le-ltb}
 use borrow.Author.Needs.{needs}
 use Rattle.program.proofs.body.may_jump.Statement.{statement}
 use Rattle.program.proofs.body.may_jump.Tie as tie
-use Rattle.program.proofs.body.may_jump.Reads as reads
-use Rattle.program.proofs.body.may_jump.Lts as lts
 
 cast-result : tie.Need-cast-result
 cast-result c = search needs

@@ -2,9 +2,6 @@ use borrow.Author.Tests.{le-leb, lt-leb}
 use borrow.Author.Needs.{needs}
 use Rattle.program.proofs.body.may_write.Statement.{statement}
 use Rattle.program.proofs.body.may_write.Tie as tie
-use Rattle.program.proofs.body.may_write.Reads as reads
-use Rattle.program.proofs.body.may_write.Lts as lts
-use Rattle.base.proofs.shape.Shape.vars.Reads as vars-reads
 
 cast-result : tie.Need-cast-result
 cast-result c = search needs

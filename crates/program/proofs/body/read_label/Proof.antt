@@ -4,11 +4,6 @@ use native.Mathlib.Omega.{arith}
 use borrow.Author.Needs.{needs}
 use Rattle.program.proofs.body.read_label.Statement.{statement}
 use Rattle.program.proofs.body.read_label.Tie as tie
-use Rattle.program.proofs.body.read_label.Reads as reads
-use Rattle.program.proofs.body.read_label.Lts as lts
-use Rattle.base.proofs.bytes.word.Reads as word-reads
-use Rattle.base.proofs.kinds.Instr.of_word.Reads as of-word-reads
-use Rattle.program.proofs.body.may_jump.Reads as may-jump-reads
 
 add-if1 : tie.Need-add-if1
 add-if1 c = search needs

@@ -3,10 +3,6 @@ use native.Mathlib.Omega.{arith}
 use borrow.Author.Needs.{needs}
 use Rattle.program.proofs.body.read_variable.Statement.{statement}
 use Rattle.program.proofs.body.read_variable.Tie as tie
-use Rattle.program.proofs.body.read_variable.Reads as reads
-use Rattle.program.proofs.body.read_variable.Lts as lts
-use Rattle.base.proofs.kinds.Cell.of_byte.Reads as of-byte-reads
-use Rattle.program.proofs.body.may_write.Reads as may-write-reads
 
 returns : tie.Need-returns
 returns c = variable-short _ _ _ (omega arith)

@@ -3,10 +3,6 @@ use native.Mathlib.Omega.{arith}
 use borrow.Author.Needs.{needs}
 use Rattle.program.proofs.walk.check_end.Statement.{statement}
 use Rattle.program.proofs.walk.check_end.Tie as tie
-use Rattle.program.proofs.walk.check_end.Reads as reads
-use Rattle.program.proofs.walk.check_end.Lts as lts
-use Rattle.base.proofs.kinds.Instr.of_word.Reads as of-word-reads
-use Rattle.program.proofs.body.body_at.Reads as body-at-reads
 
 returns : tie.Need-returns
 returns c = closed-more _ _ _ (omega arith)

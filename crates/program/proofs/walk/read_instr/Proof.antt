@@ -4,10 +4,6 @@ use native.Mathlib.Omega.{arith}
 use borrow.Author.Needs.{needs}
 use Rattle.program.proofs.walk.read_instr.Statement.{statement}
 use Rattle.program.proofs.walk.read_instr.Tie as tie
-use Rattle.program.proofs.walk.read_instr.Reads as reads
-use Rattle.program.proofs.walk.read_instr.Lts as lts
-use Rattle.program.proofs.body.body_at.Reads as body-at-reads
-use Rattle.program.proofs.body.read_body.Reads as read-body-reads
 
 cast-entry : tie.Need-cast-entry
 cast-entry c = search needs

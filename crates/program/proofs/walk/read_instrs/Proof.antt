@@ -5,10 +5,6 @@ use native.Mathlib.Omega.{arith}
 use borrow.Author.Needs.{needs}
 use Rattle.program.proofs.walk.read_instrs.Statement.{statement}
 use Rattle.program.proofs.walk.read_instrs.Tie as tie
-use Rattle.program.proofs.walk.read_instrs.Reads as reads
-use Rattle.program.proofs.walk.read_instrs.Lts as lts
-use Rattle.base.proofs.kinds.Instr.of_word.Reads as of-word-reads
-use Rattle.program.proofs.walk.read_instr.Reads as read-instr-reads
 
 abbrev Inv-loop : tie.InvT-loop
 Inv-loop file shape n at₀ i₀ at i = Reached file (shapeOf shape) n i at
