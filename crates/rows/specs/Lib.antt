@@ -1,0 +1,3 @@
+-- Rows as numbers, a table in a lent slice, and adding to it.
+pub mod Entries
+pub mod Plans
