@@ -33,11 +33,7 @@ pub fn plan_not(a: Row, node: Node) -> Plan
 fn absorbing(o: bool) -> Row
     ensures { λ r. ⌜ r .0 ≡ R.absorbing o ⌝ }
 {
-    if o {
-        Row::FALSE
-    } else {
-        Row::TRUE
-    }
+    if o { Row::FALSE } else { Row::TRUE }
 }
 
 // R29: the constant that leaves the other operand.

@@ -1,0 +1,2 @@
+-- What a set file spells, its check and its evaluation.
+pub mod Spelt
