@@ -23,7 +23,7 @@ Ready k (leaf i) = ⊥
 Ready k (inv a) = a < k
 Ready k (bin o a b) = (a < k) × (b < k)
 
-ready-below : (k : ℕ) (r : Row) → Ready k r → Below k r
+pub ready-below : (k : ℕ) (r : Row) → Ready k r → Below k r
 ready-below k (leaf i) h = tt
 ready-below k (inv a) h = h
 ready-below k (bin o a b) h = h

@@ -1,0 +1,53 @@
+use denote.Ref.{now}
+use mathlib.Core.Path.{_∙_}
+use native.Mathlib.Omega.{arith}
+use Rattle.rows.specs.Adding.{below-not, plan-of-not, plan-of-two}
+use borrow.Author.Needs.{needs}
+use Rattle.rows.proofs.table.plan_node.Statement.{statement}
+use Rattle.rows.proofs.table.plan_node.Tie as tie
+use Rattle.rows.proofs.table.plan_node.Reads as reads
+use Rattle.rows.proofs.table.plan_node.Lts as lts
+use Rattle.rows.proofs.node.node_at.Reads as node-at-reads
+use Rattle.rows.proofs.rule.plan_not.Reads as plan-not-reads
+use Rattle.rows.proofs.rule.plan_two.Reads as plan-two-reads
+
+enum-known-node : tie.Need-enum-known-node
+enum-known-node c = search needs
+
+enum-known-node-2 : tie.Need-enum-known-node-2
+enum-known-node-2 c = search needs
+
+node-at-requires : tie.Need-node-at-requires
+node-at-requires c κs = below-not _ _ _ (c .before .node2 .given .1) (c .before .before .before .before .pre)
+
+plan-not-requires : tie.Need-plan-not-requires
+plan-not-requires c κs = search needs
+
+enum-known-node-3 : tie.Need-enum-known-node-3
+enum-known-node-3 c = search needs
+
+plan-two-requires : tie.Need-plan-two-requires
+plan-two-requires c κs = search needs
+
+returns : tie.Need-returns
+returns c = cc
+
+returns-2 : tie.Need-returns-2
+returns-2 c = plan-of-not _ _ (c .before .node-at .result) (now (c .before .before .before .before .before .before .args .rows)) (c .before .before .before .node2 .given .1) (c .before .node-at .ensures) (c .plan-not .result) (c .plan-not .ensures)
+
+returns-3 : tie.Need-returns-3
+returns-3 c = plan-of-two _ _ _ _ (now (c .before .before .before .before .before .args .rows)) (c .before .before .node3 .given .1) (c .plan-two .result) (c .plan-two .ensures)
+
+pub plan-node-spec : {M : Type 1} → statement M
+plan-node-spec =
+    tie.close
+    (tie.spec
+    enum-known-node
+    enum-known-node-2
+    node-at-requires
+    plan-not-requires
+    enum-known-node-3
+    plan-two-requires
+    returns
+    returns-2
+    returns-3)
