@@ -1,6 +1,6 @@
 // What the instructions of R17 to R19 do to a storage.
-use crate::bits::both;
-use crate::bits::either;
+use storage::bits::both;
+use storage::bits::either;
 use base::kinds::Cell;
 use base::shape::Shape;
 use storage::cell_at;

@@ -9,13 +9,17 @@ use lib.ListN.{length, getD, length-append, length-map, List·getD-append}
 use lib.Seq.{getD-drop, drop-at}
 use lib.Dec.{ltb, eqb}
 use borrow.Author.Tests.{lt-ltb, le-ltb, eq-eqb, ne-eqb}
-use Rattle.rules.specs.Edition.{old, mostRows}
+use Rattle.rules.specs.Verdict.{granted}
+use Rattle.rules.specs.Edition.{old, countAt, headerEnd, mostRows}
 use Rattle.rules.specs.Lists.{numberAt, from}
-use Rattle.rules.specs.Shape.{Shape, cells}
+use Rattle.rules.specs.Shape.{Shape, cells, shapeAt}
 use Rattle.rules.specs.Rows.{Row, leaf, inv, bin, base, rowAt}
-use Rattle.rules.specs.SetFile.{TransferSet, leaves, rowPlace, rowOf, rowIn, headAt, spelt}
+use Rattle.rules.specs.SetFile.{TransferSet, leaves, rowPlace, rowOf, rowIn, headAt, spelt, readSet}
 use Rattle.laws.specs.Lists.{getD-map-from, length-from}
 use Rattle.laws.specs.Rows.{length-base, base-at}
+use Rattle.laws.specs.Canonical.{Canonical, Proper}
+use Rattle.laws.specs.Shape.{header-granted}
+use Rattle.laws.specs.SetFile.{Accepted, accepted-proper, accepted-read}
 
 -- R41: a file of a shape and r operation rows is as long as it should be, and has few enough rows.
 pub record Sized (file : List ℕ) (sh : Shape) (r : ℕ) : Type 0 where
@@ -70,6 +74,10 @@ module _ (k a b : ℕ) where
 
 -- The table and the heads of what a file spells.
 module _ (file : List ℕ) (sh : Shape) (r : ℕ) where
+  pub spelt-shape : spelt old file sh r .shape ≡ sh
+  unfolding spelt
+  spelt-shape = refl
+
   pub spelt-length : length (spelt old file sh r .tab) ≡ leaves sh + r
   unfolding spelt
   spelt-length = simp (length-append, length-base, length-map, length-from)
@@ -99,3 +107,35 @@ module _ (file : List ℕ) (sh : Shape) (r : ℕ) where
   pub spelt-heads : length (spelt old file sh r .heads) ≡ cells sh
   unfolding spelt
   spelt-heads = simp (length-map, length-from)
+
+-- ---- an accepted file
+
+-- R41: how many operation rows a file says that it has, and the set that it spells.
+abbrev pub rowsIn : List ℕ → ℕ
+rowsIn file = numberAt 2 file (countAt old)
+
+abbrev pub setIn : List ℕ → TransferSet
+setIn file = spelt old file (shapeAt old file) (rowsIn file)
+
+-- R49: the file is accepted.
+abbrev pub Taken : List ℕ → Type 0
+Taken file = Accepted old file (shapeAt old file) (rowsIn file)
+
+module _ (file : List ℕ) (a : Taken file) where
+  abbrev sh : Shape
+  sh = shapeAt old file
+
+  pub taken-sized : Sized file sh (rowsIn file)
+  taken-sized = record { size = a .size; room = a .room }
+
+  pub taken-proper : Proper old (setIn file)
+  taken-proper = accepted-proper old file sh (rowsIn file) a
+
+  pub taken-canonical : Canonical (cells sh) (setIn file .tab)
+  taken-canonical = rw (spelt-shape file sh (rowsIn file)) at (taken-proper .canonical)
+
+  pub taken-read : readSet old file ≡ granted (setIn file)
+  taken-read = accepted-read old file sh (rowsIn file) a
+
+  pub taken-header : headerEnd old ≤ length file
+  taken-header = header-granted old (old .setMark) file sh (a .header) .long
