@@ -2,3 +2,4 @@
 pub mod Spelt
 pub mod Values
 pub mod ValueLaws
+pub mod Evaluate

@@ -7,10 +7,10 @@ use borrow.Author.Needs.{needs}
 use Rattle.storage.specs.Moves.{Replacing}
 use Rattle.sets.specs.Values.{evaluatedBytes}
 use Rattle.sets.specs.ValueLaws.{head-low, head-there, heads-none, heads-more, heads-all}
-use Rattle.sets.proofs.evaluate.take_heads.Statement.{statement}
-use Rattle.sets.proofs.evaluate.take_heads.Tie as tie
-use Rattle.sets.proofs.evaluate.take_heads.Reads as reads
-use Rattle.sets.proofs.evaluate.take_heads.Lts as lts
+use Rattle.sets.proofs.values.take_heads.Statement.{statement}
+use Rattle.sets.proofs.values.take_heads.Tie as tie
+use Rattle.sets.proofs.values.take_heads.Reads as reads
+use Rattle.sets.proofs.values.take_heads.Lts as lts
 use Rattle.sets.proofs.read.head_in.Reads as head-in-reads
 
 abbrev Inv-loop : tie.InvT-loop

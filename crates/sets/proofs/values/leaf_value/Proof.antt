@@ -2,10 +2,10 @@
 use denote.Ref.{now}
 use Rattle.sets.specs.ValueLaws.{leaf-low, leaf-high}
 use borrow.Author.Needs.{needs}
-use Rattle.sets.proofs.evaluate.leaf_value.Statement.{statement}
-use Rattle.sets.proofs.evaluate.leaf_value.Tie as tie
-use Rattle.sets.proofs.evaluate.leaf_value.Reads as reads
-use Rattle.sets.proofs.evaluate.leaf_value.Lts as lts
+use Rattle.sets.proofs.values.leaf_value.Statement.{statement}
+use Rattle.sets.proofs.values.leaf_value.Tie as tie
+use Rattle.sets.proofs.values.leaf_value.Reads as reads
+use Rattle.sets.proofs.values.leaf_value.Lts as lts
 
 cast-at : tie.Need-cast-at
 cast-at c = search needs

@@ -7,14 +7,14 @@ use borrow.Author.Needs.{needs}
 use Rattle.sets.specs.Spelt.{taken-header}
 use Rattle.sets.specs.Values.{Evaluable}
 use Rattle.sets.specs.ValueLaws.{Working, working-none, working-inside, working-few, working-worked, working-more}
-use Rattle.sets.proofs.evaluate.work_out.Statement.{statement}
-use Rattle.sets.proofs.evaluate.work_out.Tie as tie
-use Rattle.sets.proofs.evaluate.work_out.Reads as reads
-use Rattle.sets.proofs.evaluate.work_out.Lts as lts
+use Rattle.sets.proofs.values.work_out.Statement.{statement}
+use Rattle.sets.proofs.values.work_out.Tie as tie
+use Rattle.sets.proofs.values.work_out.Reads as reads
+use Rattle.sets.proofs.values.work_out.Lts as lts
 use Rattle.base.proofs.bytes.word.Reads as word-reads
 use Rattle.base.proofs.shape.Shape.cells.Reads as cells-reads
 use Rattle.program.proofs.header.shape_at.Reads as shape-at-reads
-use Rattle.sets.proofs.evaluate.row_value.Reads as row-value-reads
+use Rattle.sets.proofs.values.row_value.Reads as row-value-reads
 use Rattle.sets.proofs.read.row_in.Reads as row-in-reads
 
 abbrev Inv-loop : tie.InvT-loop

@@ -2,12 +2,12 @@
 use denote.Ref.{now}
 use Rattle.sets.specs.ValueLaws.{worked-leaf, worked-not, worked-two, byte-leaf, byte-not, byte-and, byte-or}
 use borrow.Author.Needs.{needs}
-use Rattle.sets.proofs.evaluate.row_value.Statement.{statement}
-use Rattle.sets.proofs.evaluate.row_value.Tie as tie
-use Rattle.sets.proofs.evaluate.row_value.Reads as reads
-use Rattle.sets.proofs.evaluate.row_value.Lts as lts
-use Rattle.sets.proofs.evaluate.leaf_value.Reads as leaf-value-reads
-use Rattle.sets.proofs.evaluate.opposite.Reads as opposite-reads
+use Rattle.sets.proofs.values.row_value.Statement.{statement}
+use Rattle.sets.proofs.values.row_value.Tie as tie
+use Rattle.sets.proofs.values.row_value.Reads as reads
+use Rattle.sets.proofs.values.row_value.Lts as lts
+use Rattle.sets.proofs.values.leaf_value.Reads as leaf-value-reads
+use Rattle.sets.proofs.values.opposite.Reads as opposite-reads
 use Rattle.storage.proofs.bits.both.Reads as both-reads
 use Rattle.storage.proofs.bits.either.Reads as either-reads
 

@@ -4,18 +4,22 @@ use crate::read::row_in;
 use base::bytes::word;
 use base::kinds::Cell;
 use base::kinds::Row;
+use base::refusal::Refusal;
 use program::header::shape_at;
 use rows::node::Node;
+use storage::Cells;
 use storage::bits::both;
 use storage::bits::either;
+use storage::check_cells;
 ghost use mathlib.Core.Path.{_≡_};
 ghost use mathlib.Core.List.{_∷_};
 ghost use Prim.Native.Nat.{_+_, _-_, _≤_, _<_};
 ghost use lib.ListN.{length, getD};
 ghost use Rattle.rules.specs.SetFile.{TransferSet};
 ghost use Rattle.rows.specs.Entries.{nodeRow};
-ghost use Rattle.sets.specs.Spelt.{setIn};
+ghost use Rattle.sets.specs.Spelt.{setIn, Taken};
 ghost use Rattle.sets.specs.Values.{byteOf, Worked, Evaluable, Valued, evaluatedBytes};
+ghost use Rattle.sets.specs.Evaluate.{Evaluates};
 
 // R27: NOT of a bit.
 fn opposite(x: u8) -> u8
@@ -85,5 +89,36 @@ fn take_heads(file: &[u8], storage: &mut [u8], values: &[u8])
         let at = head.0 as usize;
         storage[c] = values[at];
         c += 1;
+    }
+}
+
+// How evaluating ended. What it gives is left in the storage.
+pub enum Evaluated {
+    Done,
+    Refused(Refusal),
+}
+
+// R31, R57: evaluates an accepted file on a storage that was checked. A value for each row must be lent (10).
+fn evaluate_on(file: &[u8], storage: &mut [u8], values: &mut [u8]) -> Evaluated
+    requires { ⌜ Evaluable (now file) (now storage) ⌝ }
+    ensures { λ r. ⌜ Evaluates (now (file .entry)) (now (storage .entry)) (length (now (values .entry))) r (now (storage .exit)) ⌝ }
+{
+    let total = 2 + shape_at(file).cells() + word(file, 5);
+    if values.len() < total {
+        return Evaluated::Refused(Refusal::NoRoom(0));
+    }
+    work_out(file, storage, values);
+    take_heads(file, storage, values);
+    Evaluated::Done
+}
+
+// R51: evaluates an accepted file. The storage is checked first (14).
+pub fn evaluate_accepted(file: &[u8], storage: &mut [u8], values: &mut [u8]) -> Evaluated
+    requires { ⌜ Taken (now file) ⌝ }
+    ensures { λ r. ⌜ Evaluates (now (file .entry)) (now (storage .entry)) (length (now (values .entry))) r (now (storage .exit)) ⌝ }
+{
+    match check_cells(storage, shape_at(file).cells()) {
+        Cells::Good => evaluate_on(file, storage, values),
+        Cells::Refused(x) => Evaluated::Refused(x),
     }
 }

@@ -1,0 +1,62 @@
+-- `evaluate_accepted` meets its contract.
+use mathlib.Core.Path.{ap, _∙_}
+use Rattle.rules.specs.Shape.{cells}
+use Rattle.sets.specs.Evaluate.{evaluable, evaluate-unfit}
+use borrow.Author.Needs.{needs}
+use Rattle.sets.proofs.values.evaluate_accepted.Statement.{statement}
+use Rattle.sets.proofs.values.evaluate_accepted.Tie as tie
+use Rattle.sets.proofs.values.evaluate_accepted.Reads as reads
+use Rattle.sets.proofs.values.evaluate_accepted.Lts as lts
+use Rattle.base.proofs.shape.Shape.cells.Reads as cells-reads
+use Rattle.program.proofs.header.shape_at.Reads as shape-at-reads
+use Rattle.sets.proofs.values.evaluate_on.Reads as evaluate-on-reads
+use Rattle.storage.proofs.check_cells.Reads as check-cells-reads
+
+shape-at-requires : tie.Need-shape-at-requires
+shape-at-requires c κs = search needs
+
+cells-requires : tie.Need-cells-requires
+cells-requires c κs = search needs
+
+check-cells-requires : tie.Need-check-cells-requires
+check-cells-requires c κs = search needs
+
+enum-told : tie.Need-enum-told
+enum-told c = search needs
+
+evaluate-on-requires : tie.Need-evaluate-on-requires
+evaluate-on-requires c κs = evaluable _ _ 0 (c .before .before .before .before .before .before .before .before .before .before .before .pre) _ (c .before .before .before .before .before .cells .ensures ∙ ap cells (c .before .before .before .before .before .before .shape-at .ensures)) (rw (c .before .before .enum-told .given .1) at (c .before .before .before .before .check-cells .ensures))
+
+enum-known-x : tie.Need-enum-known-x
+enum-known-x c = search needs
+
+same-length : tie.Need-same-length
+same-length c = search needs
+
+same-length-2 : tie.Need-same-length-2
+same-length-2 c = search needs
+
+returns : tie.Need-returns
+returns c = search needs
+
+same-length-3 : tie.Need-same-length-3
+same-length-3 c = search needs
+
+returns-2 : tie.Need-returns-2
+returns-2 c = evaluate-unfit _ _ _ (c .before .before .before .before .before .before .before .before .before .before .pre) _ (c .before .before .before .before .cells .ensures ∙ ap cells (c .before .before .before .before .before .shape-at .ensures)) _ (rw (c .before .x .given .1) at (c .before .before .before .check-cells .ensures))
+
+pub evaluate-accepted-spec : {M : Type 1} → statement M
+evaluate-accepted-spec =
+    tie.close
+    (tie.spec
+    shape-at-requires
+    cells-requires
+    check-cells-requires
+    enum-told
+    evaluate-on-requires
+    enum-known-x
+    same-length
+    same-length-2
+    returns
+    same-length-3
+    returns-2)
