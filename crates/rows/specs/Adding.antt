@@ -7,7 +7,7 @@ use native.Mathlib.Omega.{arith}
 use native.Mathlib.Decide.{decLt}
 use native.Mathlib.Numerals.{add-one}
 use lib.ListN.{length, getD, take, set, length-append, length-map, length-set, List·getD-map}
-use lib.Seq.{length-take-le, getD-take, take-suc-set, getD-set-same, getD-set-other}
+use lib.Seq.{ext-getD, length-take-le, getD-take, take-suc-set, getD-set-same, getD-set-other}
 use lib.Dec.{eqb}
 use borrow.Author.Tests.{eq-eqb}
 use Rattle.rules.specs.Lists.{elem, seek, orElse}
@@ -16,6 +16,7 @@ use Rattle.rules.specs.Rows.{Row, leaf, inv, bin, rowAt, Plan, have, make, plan
 use Rattle.laws.specs.Canonical.{Below, Canonical}
 use Rattle.laws.specs.Rows.{Inserts, stood, fresh, inserts}
 use Rattle.laws.specs.Rule.{Ready, ready-below, Right, below-more, plan-kept, plan-right, canonical-below}
+use Rattle.laws.specs.Grow.{ext-length, add-extends}
 use Rattle.laws.specs.Search.{find-from, none-early}
 use Rattle.base.specs.declared.kinds.Row as K
 use Rattle.rows.specs.declared.node.Node.{Node}
@@ -289,3 +290,36 @@ module _ (rows : List ℕ) (s : Table) (n : Node) where
       held = a .held;
       below = plan-below (map rowOfEntry rows) (s .used) (nodeRow n) (nodeRow m) (a .below) (sym planned ∙ ap planRow z);
     }
+
+-- R54: an addition keeps what a state stands for, refused or not. Where it is not refused, the operation must be the one asked for.
+pub holds-add : {C : ℕ} {rows after : List ℕ} {s : Table} {t : List Row} {n : Node} {x : Added} → Canonical C t → Holds rows s t
+    → Adds rows s n x after → length after ≡ length rows → (r : Row) → Ready (length t) r → (s .refused ≡ false → nodeRow n ≡ r)
+    → Gives after x (add t r)
+holds-add {C} {rows} {after} {s} {t} {n} {x} w g a size r h same = go (s .refused) refl
+  where
+    go : (b : Bool) → s .refused ≡ b → Gives after x (add t r)
+    go true e =
+        let i = a .idle e in
+        let grows = ext-length (add-extends t r) in
+        let still : x .table .refused ≡ true = ap (λ (z : Table). z .refused) (i .0) ∙ e in
+        record {
+          holds = record {
+            kept = λ f. absurd (no-false (sym f ∙ still));
+            over = λ _. omega (arith, g .over e, grows, ap length (i .1));
+          };
+          row = λ f. absurd (no-false (sym f ∙ still));
+        }
+    go false e =
+        let z = same e in
+        rw z at (a .adds e C t w (g .kept e) (rw z h))
+
+-- A slice stores a table where each of its first numbers is that of a row.
+pub stored-rows : (rows : List ℕ) (used : ℕ) (t : List Row) → length t ≡ used → used ≤ room (length rows)
+    → ((i : ℕ) → i < used → (getD rows i 0 ≡ entry (rowAt t i)) × Narrow (rowAt t i)) → Stored rows used t
+stored-rows rows used t size held is = record {
+  held = held;
+  table = ext-getD (leaf 0) (tableIn rows used) t (table-length rows used (omega arith) ∙ sym size) (λ i l.
+      (let h : i < used = omega (arith, table-length rows used (omega arith)) in
+      table-row rows used i h ∙ ap rowOfEntry (is i h .0) ∙ entry-back (rowAt t i) (is i h .1)));
+  entries = λ i h. rw (is i h .0, entry-back (rowAt t i) (is i h .1));
+}

@@ -1,0 +1,4 @@
+-- Rewriting one set onto another, and what composing answers.
+pub mod Carrying
+pub mod CarryLaws
+pub mod Copying
