@@ -12,8 +12,8 @@ use lib.Seq.{getD-set-same, getD-set-other}
 use borrow.Author.Tests.{lt-ltb, le-ltb}
 use Rattle.rules.specs.Edition.{old}
 use Rattle.rules.specs.Lists.{numberAt, elem}
+use Rattle.rules.specs.Shape as R
 use Rattle.rules.specs.Shape.{cells, shapeAt}
-use Rattle.rules.specs.Rows as R
 use Rattle.rules.specs.Rows.{Row, leaf, inv, bin, rowAt, add}
 use Rattle.rules.specs.Sets.{Heads, Carried, carryOne, carryRow, carry, reaches, after}
 use Rattle.rules.specs.SetFile.{TransferSet, leaves, headAt, named}
@@ -35,10 +35,10 @@ use Rattle.rows.specs.Entries.{nodeRow}
 use Rattle.rows.specs.Table.{Stored, Holds, Addable, Adds, Gives}
 use Rattle.rows.specs.Adding.{holds-add, stored-length}
 use Rattle.rows.specs.declared.node.Node.{Node}
-use Rattle.rows.specs.declared.node.Node.the-variants.{Not, Two}
+use Rattle.rows.specs.declared.node.Node.the-variants.{Leaf, Not, Two}
 use Rattle.rows.specs.declared.table.Table.{Table}
 use Rattle.rows.specs.declared.table.Added.{Added}
-use Rattle.sets.specs.Spelt.{setIn, rowsIn, Taken, speltRow, spelt-row, spelt-shape, spelt-length, spelt-head, spelt-heads, taken-proper, taken-canonical}
+use Rattle.sets.specs.Spelt.{setIn, rowsIn, Taken, Inside, sized-inside, taken-sized, speltRow, spelt-row, spelt-shape, spelt-length, spelt-head, spelt-heads, taken-proper, taken-canonical}
 use Rattle.compose.specs.Carrying.{Pair, Known, newNumber, renumbered, carried, Carrying, Moving, newHeads}
 
 no-false : false ≡ true → ⊥
@@ -60,6 +60,31 @@ module _ (first : List ℕ) (leaves : ℕ) (numbers : List ℕ) (i : ℕ) where
   pub number-noted : 2 ≤ i → leaves ≤ i → getD numbers (i - leaves) 0 ≡ newNumber first leaves numbers i
   unfolding newNumber
   number-noted h l = rw (le-ltb i 2 h, le-ltb i leaves l) refl
+
+-- The same where the code has counted C cells.
+pub noted-at : (first : List ℕ) (sh : R.Shape) (numbers : List ℕ) (i C : ℕ) → C ≡ cells sh → 2 ≤ i → 2 + C ≤ i
+    → getD numbers (i - (2 + C)) 0 ≡ newNumber first (leaves sh) numbers i
+noted-at first sh numbers i C e h l = rw e (number-noted first (leaves sh) numbers i h (omega arith))
+
+-- ---- nodes by their case
+
+module _ (n : Node) (first : List ℕ) (l : ℕ) (numbers : List ℕ) where
+  pub known-not : (a : K.Row) → n ≡ Not a → Operands (Known first l (length numbers)) (nodeRow n) → Known first l (length numbers) (a .0)
+  known-not a e h = rw e at h
+
+  pub known-two : (o : Bool) (a b : K.Row) → n ≡ Two o a b → Operands (Known first l (length numbers)) (nodeRow n)
+      → Known first l (length numbers) (a .0) × Known first l (length numbers) (b .0)
+  known-two o a b e h = rw e at h
+
+  pub new-leaf : (i : K.Row) → n ≡ Leaf i → leaf (i .0) ≡ renumbered first l numbers (nodeRow n)
+  new-leaf i e = rw e refl
+
+  pub new-not : (a x : K.Row) → n ≡ Not a → x .0 ≡ newNumber first l numbers (a .0) → inv (x .0) ≡ renumbered first l numbers (nodeRow n)
+  new-not a x e q = rw e (ap inv q)
+
+  pub new-two : (o : Bool) (a b x y : K.Row) → n ≡ Two o a b → x .0 ≡ newNumber first l numbers (a .0)
+      → y .0 ≡ newNumber first l numbers (b .0) → bin o (x .0) (y .0) ≡ renumbered first l numbers (nodeRow n)
+  new-two o a b x y e q r = rw e (ap₂ {C = Row} (bin o) q r)
 
 -- ---- two files
 
@@ -197,6 +222,18 @@ module _ (first second : List ℕ) (shape : Shape) (p : Pair first second shape)
       let q = reached (L + j) (omega arith) (omega (arith, sizeY)) in
       let o = carry-op add (X .heads) (M (L + j)) (L + j) (row j) (row-ready j h) in
       record { tab = rw (z, q, o); news = rw (z, q, o) }
+
+  -- Where the code reads it; c is the number of cells.
+  module _ (j : ℕ) (h : j < rowsIn second) (c : ℕ) (e : c ≡ C) where
+    pub row-inside : Inside second (shapeOf shape) (2 + c + j)
+    row-inside = rw (← second-shape) (sized-inside second (shapeAt old second) (rowsIn second) (2 + c + j) (taken-sized second (p .two))
+        (omega (arith, ap cells second-shape)))
+
+    pub row-few : 2 + c + j < 65536
+    row-few = omega (arith, p .two .room, ap cells second-shape)
+
+    pub row-place : (n : Node) → nodeRow n ≡ speltRow second (shapeOf shape) (2 + c + j) → nodeRow n ≡ speltRow second (shapeOf shape) (L + j)
+    row-place n q = q ∙ ap (λ k. speltRow second (shapeOf shape) (2 + k + j)) e
 
   -- The row as the code reads it and renumbers it.
   module _ (rows numbers : List ℕ) (s : Table) (j : ℕ) (g : Carrying first second shape rows s numbers j) (h : j < rowsIn second)
@@ -345,3 +382,10 @@ module _ (first second : List ℕ) (shape : Shape) (p : Pair first second shape)
 
     pub heads-all : (d u : List ℕ) (c : ℕ) → length d ≡ n → Replacing d 0 given u c → n ≤ c → u ≡ given
     heads-all d u c size f h = replacing-whole f (omega arith) (omega (arith, given-length))
+
+-- The turn after the last row.
+pub carrying-all : (first second : List ℕ) (shape : Shape) (rows : List ℕ) (s : Table) (numbers : List ℕ) (j : ℕ)
+    → Carrying first second shape rows s numbers j → rowsIn second ≤ j → Carrying first second shape rows s numbers (rowsIn second)
+carrying-all first second shape rows s numbers j g h =
+    let z : j ≡ rowsIn second = omega (arith, g .low) in
+    rw z at g

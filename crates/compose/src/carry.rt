@@ -12,7 +12,8 @@ use sets::read::row_in;
 ghost use mathlib.Core.Path.{_≡_};
 ghost use Prim.Native.Nat.{_+_, _<_};
 ghost use lib.ListN.{length};
-ghost use Rattle.rules.specs.SetFile.{TransferSet};
+ghost use Rattle.rules.specs.SetFile.{TransferSet, leaves};
+ghost use Rattle.base.specs.Answers.{shapeOf};
 ghost use Rattle.laws.specs.Canonical.{Operands};
 ghost use Rattle.rows.specs.Entries.{nodeRow};
 ghost use Rattle.rows.specs.Table.{Stored};
@@ -32,14 +33,15 @@ pub fn copy_rows(file: &[u8], shape: Shape, total: usize, rows: &mut [u64])
 }
 
 // R34: the number that row i of the second set gets: a constant its own, a cell the first set's head, an operation what was noted.
-fn number_of(first: &[u8], leaves: usize, numbers: &[u16], i: Row) -> Row
-    requires { ⌜ Known (now first) leaves (length (now numbers)) (i .0) ⌝ }
-    ensures { λ r. ⌜ r .0 ≡ newNumber (now (first .entry)) leaves (now (numbers .entry)) (i .0) ⌝ }
+fn number_of(first: &[u8], shape: Shape, numbers: &[u16], i: Row) -> Row
+    requires { ⌜ Known (now first) (leaves (shapeOf shape)) (length (now numbers)) (i .0) ⌝ }
+    ensures { λ r. ⌜ r .0 ≡ newNumber (now (first .entry)) (leaves (shapeOf shape)) (now (numbers .entry)) (i .0) ⌝ }
 {
     let at = i.0 as usize;
     if at < 2 {
         return i;
     }
+    let leaves = 2 + shape.cells();
     if at < leaves {
         return head_in(first, Cell((at - 2) as u16));
     }
@@ -47,17 +49,17 @@ fn number_of(first: &[u8], leaves: usize, numbers: &[u16], i: Row) -> Row
 }
 
 // R34: a row with its operands renumbered.
-fn renumber(first: &[u8], leaves: usize, numbers: &[u16], node: Node) -> Node
-    requires { ⌜ Operands (Known (now first) leaves (length (now numbers))) (nodeRow node) ⌝ }
-    ensures { λ r. ⌜ nodeRow r ≡ renumbered (now (first .entry)) leaves (now (numbers .entry)) (nodeRow node) ⌝ }
+fn renumber(first: &[u8], shape: Shape, numbers: &[u16], node: Node) -> Node
+    requires { ⌜ Operands (Known (now first) (leaves (shapeOf shape)) (length (now numbers))) (nodeRow node) ⌝ }
+    ensures { λ r. ⌜ nodeRow r ≡ renumbered (now (first .entry)) (leaves (shapeOf shape)) (now (numbers .entry)) (nodeRow node) ⌝ }
 {
     match node {
         Node::Leaf(i) => Node::Leaf(i),
-        Node::Not(a) => Node::Not(number_of(first, leaves, numbers, a)),
+        Node::Not(a) => Node::Not(number_of(first, shape, numbers, a)),
         Node::Two(o, a, b) => Node::Two(
             o,
-            number_of(first, leaves, numbers, a),
-            number_of(first, leaves, numbers, b),
+            number_of(first, shape, numbers, a),
+            number_of(first, shape, numbers, b),
         ),
     }
 }
@@ -75,9 +77,9 @@ fn carry_row(
     requires { ⌜ Carrying (now first) (now second) shape (now rows) table (now numbers) j × (j < rowsIn (now second)) ⌝ }
     ensures { λ r. ⌜ Carrying (now (first .entry)) (now (second .entry)) shape (now (rows .exit)) r (now (numbers .exit)) (j + 1) ⌝ }
 {
-    let leaves = 2 + shape.cells();
-    let node = row_in(second, shape, Row((leaves + j) as u16));
-    let added = add(rows, table, renumber(first, leaves, numbers, node));
+    let at = 2 + shape.cells() + j;
+    let node = row_in(second, shape, Row(at as u16));
+    let added = add(rows, table, renumber(first, shape, numbers, node));
     numbers[j] = added.row.0;
     added.table
 }
@@ -109,10 +111,9 @@ pub fn move_heads(first: &[u8], second: &[u8], shape: Shape, numbers: &[u16], he
     requires { ⌜ Moving (now first) (now second) shape (now numbers) (length (now heads)) ⌝ }
     ensures { λ _. ⌜ now (heads .exit) ≡ newHeads (now (first .entry)) (now (second .entry)) shape (now (numbers .entry)) ⌝ }
 {
-    let leaves = 2 + shape.cells();
     let mut c = 0;
     while c < heads.len() {
-        let head = number_of(first, leaves, numbers, head_in(second, Cell(c as u16)));
+        let head = number_of(first, shape, numbers, head_in(second, Cell(c as u16)));
         heads[c] = head.0;
         c += 1;
     }

@@ -1,3 +1,6 @@
+-- `carry_row` meets its contract.
+use native.Mathlib.Omega.{arith}
+use Rattle.compose.specs.CarryLaws.{row-few, row-inside, row-place, row-known, new-addable, carrying-more}
 use borrow.Author.Needs.{needs}
 use Rattle.compose.proofs.carry.carry_row.Statement.{statement}
 use Rattle.compose.proofs.carry.carry_row.Tie as tie
@@ -8,62 +11,50 @@ use Rattle.compose.proofs.carry.renumber.Reads as renumber-reads
 use Rattle.rows.proofs.table.add.Reads as add-reads
 use Rattle.sets.proofs.read.row_in.Reads as row-in-reads
 
--- src/carry.rt:78:22
 cells-requires : tie.Need-cells-requires
 cells-requires c κs = search needs
 
--- src/carry.rt:78:18
-add-leaves : tie.Need-add-leaves
-add-leaves c = search needs
+add-at : tie.Need-add-at
+add-at c = search needs
 
--- src/carry.rt:79:43
-add-t11 : tie.Need-add-t11
-add-t11 c = search needs
+add-at-2 : tie.Need-add-at-2
+add-at-2 c = search needs
 
--- src/carry.rt:79:42
-cast-t12 : tie.Need-cast-t12
-cast-t12 c = ?
+cast-t13 : tie.Need-cast-t13
+cast-t13 c = omega (arith, row-few _ _ _ (c .before .before .before .before .before .pre .0 .pair) _ (c .before .before .before .before .before .pre .1) _ (c .cells .ensures))
 
--- src/carry.rt:79:9
 row-in-requires : tie.Need-row-in-requires
-row-in-requires c κs = ?
+row-in-requires c κs = row-inside _ _ _ (c .before .before .before .before .before .pre .0 .pair) _ (c .before .before .before .before .before .pre .1) _ (c .cells .ensures)
 
--- src/carry.rt:80:34
 renumber-requires : tie.Need-renumber-requires
-renumber-requires c κs = ?
+renumber-requires c κs = row-known _ _ _ (c .before .before .before .before .before .before .before .before .pre .0 .pair) _ _ _ _ (c .before .before .before .before .before .before .before .before .pre .0) (c .before .before .before .before .before .before .before .before .pre .1) (c .before .before .row-in .result) (row-place _ _ _ (c .before .before .before .before .before .before .before .before .pre .0 .pair) _ (c .before .before .before .before .before .before .before .before .pre .1) _ (c .before .before .before .cells .ensures) (c .before .before .row-in .result) (c .before .before .row-in .ensures))
 
--- src/carry.rt:80:9
 add-requires : tie.Need-add-requires
-add-requires c κs = ?
+add-requires c κs = new-addable _ _ _ (c .before .before .before .before .before .before .before .before .before .pre .0 .pair) _ _ _ _ (c .before .before .before .before .before .before .before .before .before .pre .0) (c .before .before .before .before .before .before .before .before .before .pre .1) (c .before .before .before .row-in .result) (row-place _ _ _ (c .before .before .before .before .before .before .before .before .before .pre .0 .pair) _ (c .before .before .before .before .before .before .before .before .before .pre .1) _ (c .before .before .before .before .cells .ensures) (c .before .before .before .row-in .result) (c .before .before .before .row-in .ensures)) (c .renumber .result) (c .renumber .ensures)
 
--- src/carry.rt:81:5
 mul-numbers : tie.Need-mul-numbers
 mul-numbers c = search needs
 
--- src/carry.rt:81:5
 slice-write-numbers : tie.Need-slice-write-numbers
 slice-write-numbers c = search needs
 
--- src/carry.rt:66:1
 same-length : tie.Need-same-length
 same-length c = search needs
 
--- src/carry.rt:66:1
 same-length-2 : tie.Need-same-length-2
 same-length-2 c = search needs
 
--- src/carry.rt:66:1
 returns : tie.Need-returns
-returns c = ?
+returns c = carrying-more _ _ _ (c .before .before .before .before .before .before .before .before .before .before .before .before .before .pre .0 .pair) _ _ _ _ (c .before .before .before .before .before .before .before .before .before .before .before .before .before .pre .0) (c .before .before .before .before .before .before .before .before .before .before .before .before .before .pre .1) (c .before .before .before .before .before .before .before .row-in .result) (row-place _ _ _ (c .before .before .before .before .before .before .before .before .before .before .before .before .before .pre .0 .pair) _ (c .before .before .before .before .before .before .before .before .before .before .before .before .before .pre .1) _ (c .before .before .before .before .before .before .before .before .cells .ensures) (c .before .before .before .before .before .before .before .row-in .result) (c .before .before .before .before .before .before .before .row-in .ensures)) (c .before .before .before .before .renumber .result) (c .before .before .before .before .renumber .ensures) _ _ (c .before .before .before .add .ensures) (c .before .before .before .add .kept .0)
 
 pub carry-row-spec : {M : Type 1} → statement M
 carry-row-spec =
     tie.close
     (tie.spec
     cells-requires
-    add-leaves
-    add-t11
-    cast-t12
+    add-at
+    add-at-2
+    cast-t13
     row-in-requires
     renumber-requires
     add-requires

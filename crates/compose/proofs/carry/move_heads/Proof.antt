@@ -1,68 +1,58 @@
+-- `move_heads` meets its contract: one head more a turn.
+use Prim.Native.Nat.{_-_}
+use mathlib.Core.Path.{refl, ap}
+use native.Mathlib.Omega.{arith}
+use lib.ListN.{length}
+use borrow.Author.Needs.{needs}
+use Rattle.rules.specs.Shape.{cells}
+use Rattle.storage.specs.Moves.{Replacing}
+use Rattle.compose.specs.Carrying.{newHeads}
+use Rattle.compose.specs.CarryLaws.{head-there, head-known, heads-none, heads-more, heads-all}
 use Rattle.compose.proofs.carry.move_heads.Statement.{statement}
 use Rattle.compose.proofs.carry.move_heads.Tie as tie
 use Rattle.compose.proofs.carry.move_heads.Reads as reads
 use Rattle.compose.proofs.carry.move_heads.Lts as lts
-use Rattle.base.proofs.shape.Shape.cells.Reads as cells-reads
 use Rattle.compose.proofs.carry.number_of.Reads as number-of-reads
 use Rattle.sets.proofs.read.head_in.Reads as head-in-reads
 
 abbrev Inv-loop : tie.InvT-loop
-Inv-loop first second numbers heads₀ leaves c₀ heads c = ?
+Inv-loop first second shape numbers heads₀ c₀ heads c = Replacing heads₀ 0 (newHeads first second shape numbers) heads c
 
 abbrev μ-loop : tie.MeasureT-loop
-μ-loop first second numbers heads₀ leaves c₀ heads c = ?
+μ-loop first second shape numbers heads₀ c₀ heads c = length heads₀ - c
 
--- src/carry.rt:112:22
-cells-requires : tie.Need-cells-requires Inv-loop μ-loop
-cells-requires c κs = ?
-
--- src/carry.rt:112:18
-add-leaves : tie.Need-add-leaves Inv-loop μ-loop
-add-leaves c = ?
-
--- src/carry.rt:114:5
 loop-holds : tie.Need-loop-holds Inv-loop μ-loop
-loop-holds c = ?
+loop-holds c = heads-none _ _ _ (c .before .before .before .before .pre .pair) _ _ (c .before .before .before .before .pre) _
 
--- src/carry.rt:115:75
-cast-t13 : tie.Need-cast-t13 Inv-loop μ-loop
-cast-t13 c = ?
+cast-t11 : tie.Need-cast-t11 Inv-loop μ-loop
+cast-t11 c = omega (arith, c .before .before .before .before .before .before .pre .count, c .before .before .before .before .before .before .pre .pair .one .room, ap cells (c .before .before .before .before .before .before .pre .pair .shaped), c .before .loop .inv .size, c .loop-test .taken)
 
--- src/carry.rt:115:54
 head-in-requires : tie.Need-head-in-requires Inv-loop μ-loop
-head-in-requires c κs = ?
+head-in-requires c κs = head-there _ _ _ (c .before .before .before .before .before .before .pre .pair) _ _ (c .before .before .before .before .before .before .pre) _ (omega (arith, c .before .loop .inv .size, c .loop-test .taken))
 
--- src/carry.rt:115:13
 number-of-requires : tie.Need-number-of-requires Inv-loop μ-loop
-number-of-requires c κs = ?
+number-of-requires c κs = head-known _ _ _ (c .before .before .before .before .before .before .before .pre .pair) _ _ (c .before .before .before .before .before .before .before .pre) _ _ (omega (arith, c .before .before .loop .inv .size, c .before .loop-test .taken)) (c .head-in .ensures)
 
--- src/carry.rt:116:9
 mul-heads : tie.Need-mul-heads Inv-loop μ-loop
-mul-heads c = ?
+mul-heads c = search needs
 
--- src/carry.rt:116:9
 slice-write-heads : tie.Need-slice-write-heads Inv-loop μ-loop
-slice-write-heads c = ?
+slice-write-heads c = search needs
 
--- src/carry.rt:117:9
 add-c : tie.Need-add-c Inv-loop μ-loop
-add-c c = ?
+add-c c = search needs
 
--- src/carry.rt:114:5
 loop-less : tie.Need-loop-less Inv-loop μ-loop
-loop-less c = ?
+loop-less c = omega (arith, c .before .before .before .loop .inv .size, c .before .before .loop-test .taken)
 
--- src/carry.rt:114:5
 loop-again : tie.Need-loop-again Inv-loop μ-loop
-loop-again c = ?
+loop-again c = heads-more _ _ _ (c .before .before .before .before .before .before .before .before .pre .pair) _ _ (c .before .before .before .before .before .before .before .before .pre) _ _ _ _ _ refl (c .before .before .before .loop .inv) (omega (arith, c .before .before .before .loop .inv .size, c .before .before .loop-test .taken)) (c .before .head-in .ensures) (c .number-of .ensures)
 
--- src/carry.rt:108:1
 same-length : tie.Need-same-length Inv-loop μ-loop
-same-length c = ?
+same-length c = c .before .loop .inv .size
 
--- src/carry.rt:108:1
 returns : tie.Need-returns Inv-loop μ-loop
-returns c = ?
+returns c = heads-all _ _ _ (c .before .before .before .before .before .before .pre .pair) _ _ (c .before .before .before .before .before .before .pre) _ _ _ refl (c .before .loop .inv) (omega (arith, c .before .loop .inv .size, c .loop-test .left))
 
 pub move-heads-spec : {M : Type 1} → statement M
 move-heads-spec =
@@ -70,10 +60,8 @@ move-heads-spec =
     (tie.spec
     Inv-loop
     μ-loop
-    cells-requires
-    add-leaves
     loop-holds
-    cast-t13
+    cast-t11
     head-in-requires
     number-of-requires
     mul-heads

@@ -1,41 +1,44 @@
+-- `number_of` meets its contract: a law for each kind of row.
+use mathlib.Core.Path.{_∙_}
+use native.Mathlib.Omega.{arith}
+use Rattle.compose.specs.CarryLaws.{number-constant, number-head, noted-at}
 use borrow.Author.Needs.{needs}
 use Rattle.compose.proofs.carry.number_of.Statement.{statement}
 use Rattle.compose.proofs.carry.number_of.Tie as tie
 use Rattle.compose.proofs.carry.number_of.Reads as reads
 use Rattle.compose.proofs.carry.number_of.Lts as lts
+use Rattle.base.proofs.shape.Shape.cells.Reads as cells-reads
 use Rattle.sets.proofs.read.head_in.Reads as head-in-reads
 
--- src/carry.rt:39:14
 cast-at : tie.Need-cast-at
 cast-at c = search needs
 
--- src/carry.rt:41:9
 returns : tie.Need-returns
-returns c = ?
+returns c = number-constant _ _ _ _ (c .if1 .taken)
 
--- src/carry.rt:44:36
-cast-t8 : tie.Need-cast-t8
-cast-t8 c = search needs
+cells-requires : tie.Need-cells-requires
+cells-requires c κs = search needs
 
--- src/carry.rt:44:9
+add-leaves : tie.Need-add-leaves
+add-leaves c = search needs
+
+cast-t10 : tie.Need-cast-t10
+cast-t10 c = search needs
+
 head-in-requires : tie.Need-head-in-requires
-head-in-requires c κs = ?
+head-in-requires c κs = c .before .before .before .before .before .before .pre .head (c .before .before .if1 .left) (omega (arith, c .before .cells .ensures, c .if2 .taken))
 
--- src/carry.rt:44:9
 returns-2 : tie.Need-returns-2
-returns-2 c = ?
+returns-2 c = c .head-in .ensures ∙ number-head _ _ _ _ (c .before .before .before .if1 .left) (omega (arith, c .before .before .cells .ensures, c .before .if2 .taken))
 
--- src/carry.rt:46:9
-mul-t11 : tie.Need-mul-t11
-mul-t11 c = search needs
+mul-t12 : tie.Need-mul-t12
+mul-t12 c = search needs
 
--- src/carry.rt:46:9
-shared-slice-read-t13 : tie.Need-shared-slice-read-t13
-shared-slice-read-t13 c = ?
+shared-slice-read-t14 : tie.Need-shared-slice-read-t14
+shared-slice-read-t14 c = omega (arith, c .before .before .cells .ensures, c .before .before .before .before .before .before .before .pre .noted (omega (arith, c .before .before .cells .ensures, c .before .if2 .left)))
 
--- src/carry.rt:35:1
 returns-3 : tie.Need-returns-3
-returns-3 c = ?
+returns-3 c = noted-at _ _ _ _ _ (c .before .before .cells .ensures) (c .before .before .before .if1 .left) (c .before .if2 .left)
 
 pub number-of-spec : {M : Type 1} → statement M
 number-of-spec =
@@ -43,9 +46,11 @@ number-of-spec =
     (tie.spec
     cast-at
     returns
-    cast-t8
+    cells-requires
+    add-leaves
+    cast-t10
     head-in-requires
     returns-2
-    mul-t11
-    shared-slice-read-t13
+    mul-t12
+    shared-slice-read-t14
     returns-3)

@@ -1,3 +1,8 @@
+-- `renumber` meets its contract: a law for each kind of row.
+use denote.Ref.{now}
+use Rattle.rules.specs.SetFile.{leaves}
+use Rattle.base.specs.Answers.{shapeOf}
+use Rattle.compose.specs.CarryLaws.{known-not, known-two, new-leaf, new-not, new-two}
 use borrow.Author.Needs.{needs}
 use Rattle.compose.proofs.carry.renumber.Statement.{statement}
 use Rattle.compose.proofs.carry.renumber.Tie as tie
@@ -5,41 +10,32 @@ use Rattle.compose.proofs.carry.renumber.Reads as reads
 use Rattle.compose.proofs.carry.renumber.Lts as lts
 use Rattle.compose.proofs.carry.number_of.Reads as number-of-reads
 
--- src/carry.rt:55:20
 enum-known-node : tie.Need-enum-known-node
 enum-known-node c = search needs
 
--- src/carry.rt:56:19
 enum-known-node-2 : tie.Need-enum-known-node-2
 enum-known-node-2 c = search needs
 
--- src/carry.rt:56:35
 number-of-requires : tie.Need-number-of-requires
-number-of-requires c κs = ?
+number-of-requires c κs = known-not _ (now (c .before .before .before .before .before .args .first)) (leaves (shapeOf (c .before .before .before .before .before .args .shape))) (now (c .before .before .before .before .before .args .numbers)) _ (c .before .node2 .given .1) (c .before .before .before .before .before .pre)
 
--- src/carry.rt:57:19
 enum-known-node-3 : tie.Need-enum-known-node-3
 enum-known-node-3 c = search needs
 
--- src/carry.rt:59:13
 number-of-requires-2 : tie.Need-number-of-requires-2
-number-of-requires-2 c κs = ?
+number-of-requires-2 c κs = known-two _ (now (c .before .before .before .before .before .args .first)) (leaves (shapeOf (c .before .before .before .before .before .args .shape))) (now (c .before .before .before .before .before .args .numbers)) _ _ _ (c .before .node3 .given .1) (c .before .before .before .before .before .pre) .0
 
--- src/carry.rt:60:13
 number-of-requires-3 : tie.Need-number-of-requires-3
-number-of-requires-3 c κs = ?
+number-of-requires-3 c κs = known-two _ (now (c .before .before .before .before .before .before .args .first)) (leaves (shapeOf (c .before .before .before .before .before .before .args .shape))) (now (c .before .before .before .before .before .before .args .numbers)) _ _ _ (c .before .before .node3 .given .1) (c .before .before .before .before .before .before .pre) .1
 
--- src/carry.rt:50:1
 returns : tie.Need-returns
-returns c = ?
+returns c = new-leaf _ (now (c .before .before .before .before .before .args .first)) (leaves (shapeOf (c .before .before .before .before .before .args .shape))) (now (c .before .before .before .before .before .args .numbers)) _ (c .before .node .given .1)
 
--- src/carry.rt:50:1
 returns-2 : tie.Need-returns-2
-returns-2 c = ?
+returns-2 c = new-not _ (now (c .before .before .before .before .before .before .args .first)) (leaves (shapeOf (c .before .before .before .before .before .before .args .shape))) (now (c .before .before .before .before .before .before .args .numbers)) _ _ (c .before .before .node2 .given .1) (c .number-of .ensures)
 
--- src/carry.rt:50:1
 returns-3 : tie.Need-returns-3
-returns-3 c = ?
+returns-3 c = new-two _ (now (c .before .before .before .before .before .before .before .args .first)) (leaves (shapeOf (c .before .before .before .before .before .before .before .args .shape))) (now (c .before .before .before .before .before .before .before .args .numbers)) _ _ _ _ _ (c .before .before .before .node3 .given .1) (c .before .number-of2 .ensures) (c .number-of3 .ensures)
 
 pub renumber-spec : {M : Type 1} → statement M
 renumber-spec =
