@@ -11,6 +11,7 @@ pub mod Rows
 pub mod Grow
 pub mod Rule
 pub mod Reach
+pub mod Search
 pub mod After
 pub mod Choice
 pub mod Build

@@ -1,0 +1,47 @@
+-- Searching a table: for an equal row, which may begin after an operand; for a number in a list; for what names a row.
+use Prim.Native.Nat.{ℕ, suc, _-_, _≤_, _<_}
+use mathlib.Core.Path.{_≡_, refl}
+use mathlib.Core.Bool.{Bool, true, false}
+use mathlib.Core.List.{List}
+use native.Mathlib.Omega.{arith}
+use native.Mathlib.Decide.{decLt}
+use lib.ListN.{length}
+use Rattle.rules.specs.Lists.{elem, seek}
+use Rattle.rules.specs.Rows.{Row, rowAt, same, find}
+use Rattle.rules.specs.Sets.{operands}
+use Rattle.laws.specs.Canonical.{Below}
+use Rattle.laws.specs.Lists.{Searching, searching-hit, searching-end}
+use Rattle.laws.specs.Rows.{Inserts, stood, fresh, inserts, find-first, same-true, same-refl}
+use Rattle.laws.specs.Reach.{operands-low}
+
+-- ---- an equal row
+
+-- R30: finding a row is searching from s on where no row before s is the same.
+pub find-from : (t : List Row) (r : Row) (s : ℕ) → s ≤ length t → ((i : ℕ) → i < s → same (rowAt t i) r ≡ false)
+    → find t r ≡ seek (λ i. same (rowAt t i) r) (length t - s) s
+find-from t r s h e = go (inserts t r)
+  where
+    went : s ≤ find t r → Searching (λ i. same (rowAt t i) r) s (find t r)
+    went l = record { low = l; none = λ j p q. find-first t r j q }
+
+    go : Inserts t r → find t r ≡ seek (λ i. same (rowAt t i) r) (length t - s) s
+    go (stood k l d) = elim (decLt (find t r) s) [
+      | yes q
+          ↦ (let n = e (find t r) q in let y = same-refl r in let z : _≡_ {A = ℕ} 0 1 = cc in absurd (omega arith))
+      | no q ↦ searching-hit (length t - s) (find t r) (went (omega arith)) (omega arith) (rw d (same-refl r))
+    ]
+    go (fresh k l d) = searching-end (length t - s) (find t r) (went (omega arith)) (omega arith)
+
+-- R30: where operands are earlier, no row up to an operand of r is the same as r. The first n rows are known to be so.
+pub none-early : (t : List Row) (r : Row) (a n : ℕ) → elem a (operands r) ≡ true → a < n
+    → ((i : ℕ) → i < n → Below i (rowAt t i))
+    → (i : ℕ) → i < suc a → same (rowAt t i) r ≡ false
+none-early t r a n e h b i l = go (same (rowAt t i) r) refl
+  where
+    go : (q : Bool) → same (rowAt t i) r ≡ q → q ≡ false
+    go true q =
+        let under : Below i r = rw (same-true (rowAt t i) r q) at (b i (omega arith)) in
+        let none = operands-low i a r under (omega arith) in
+        let z : _≡_ {A = ℕ} 0 1 = cc in
+        absurd (omega arith)
+    go false q = refl
