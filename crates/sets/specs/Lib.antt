@@ -1,2 +1,4 @@
 -- What a set file spells, its check and its evaluation.
 pub mod Spelt
+pub mod Contracts
+pub mod Fit
