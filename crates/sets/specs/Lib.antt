@@ -2,3 +2,5 @@
 pub mod Spelt
 pub mod Contracts
 pub mod Fit
+pub mod Naming
+pub mod Check

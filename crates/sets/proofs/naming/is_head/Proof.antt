@@ -1,3 +1,15 @@
+use Prim.Native.Nat.{_-_}
+use mathlib.Core.Path.{sym, ap, _∙_}
+use borrow.Author.Tests.{ne-eqb}
+use lib.Dec.{eqb}
+use Rattle.base.specs.Answers.{shapeOf}
+use Rattle.rules.specs.SetFile.{headAt}
+use Rattle.rules.specs.Edition.{old}
+use Rattle.rules.specs.Lists.{numberAt}
+use Rattle.laws.specs.Lists.{Searching, searching-start, searching-more}
+use Rattle.sets.specs.Naming.{head-is, head-none}
+use native.Mathlib.Omega.{arith}
+use borrow.Author.Needs.{needs}
 use Rattle.sets.proofs.naming.is_head.Statement.{statement}
 use Rattle.sets.proofs.naming.is_head.Tie as tie
 use Rattle.sets.proofs.naming.is_head.Reads as reads
@@ -6,46 +18,47 @@ use Rattle.base.proofs.shape.Shape.cells.Reads as cells-reads
 use Rattle.sets.proofs.read.head_in.Reads as head-in-reads
 
 abbrev Inv-loop : tie.InvT-loop
-Inv-loop file k cells c₀ c = ?
+Inv-loop file k cells c₀ c = Searching (λ c. eqb (k .0) (numberAt 2 file (headAt old c))) c₀ c
 
 abbrev μ-loop : tie.MeasureT-loop
-μ-loop file k cells c₀ c = ?
+μ-loop file k cells c₀ c = cells - c
 
--- src/naming.rt:27:9
 cells-requires : tie.Need-cells-requires Inv-loop μ-loop
-cells-requires c κs = ?
+cells-requires c κs = search needs
 
--- src/naming.rt:29:5
 loop-holds : tie.Need-loop-holds Inv-loop μ-loop
-loop-holds c = ?
+loop-holds c = searching-start
 
--- src/naming.rt:30:31
 cast-t8 : tie.Need-cast-t8 Inv-loop μ-loop
-cast-t8 c = ?
+cast-t8 c = 
+    let s = c .before .before .before .before in
+    omega (arith, c .before .before .cells .ensures, s .pre .room)
 
--- src/naming.rt:30:12
 head-in-requires : tie.Need-head-in-requires Inv-loop μ-loop
-head-in-requires c κs = ?
+head-in-requires c κs = 
+    let s = c .before .before .before .before in
+    omega (arith, c .before .before .cells .ensures, s .pre .size)
 
--- src/naming.rt:31:13
 returns : tie.Need-returns Inv-loop μ-loop
-returns c = ?
+returns c = 
+    let s = c .before .before .before .before .before .before .before .before in
+    let a = s .args in
+    head-is (a .file .now) (shapeOf (a .shape)) _ _ (omega (arith, c .before .before .before .before .before .before .cells .ensures, c .before .before .before .before .loop-test .taken)) (sym (c .before .before .before .head-in .ensures) ∙ c .if1 .taken)
 
--- src/naming.rt:33:9
 add-c : tie.Need-add-c Inv-loop μ-loop
-add-c c = ?
+add-c c = search needs
 
--- src/naming.rt:29:5
 loop-less : tie.Need-loop-less Inv-loop μ-loop
-loop-less c = ?
+loop-less c = search needs
 
--- src/naming.rt:29:5
 loop-again : tie.Need-loop-again Inv-loop μ-loop
-loop-again c = ?
+loop-again c = searching-more _ (c .before .before .before .before .before .loop .inv) (ne-eqb _ _ λ e. c .if1 .left (c .before .before .before .head-in .ensures ∙ sym e))
 
--- src/naming.rt:23:1
 returns-2 : tie.Need-returns-2 Inv-loop μ-loop
-returns-2 c = ?
+returns-2 c = 
+    let s = c .before .before .before .before in
+    let a = s .args in
+    head-none (a .file .now) (shapeOf (a .shape)) _ _ (omega (arith, c .before .before .cells .ensures, c .loop-test .left)) (c .before .loop .inv)
 
 pub is-head-spec : {M : Type 1} → statement M
 is-head-spec =
