@@ -1,32 +1,22 @@
--- Checking a set file: a law for each answer, what a granted check tells, and that the contract admits one answer only.
-use Prim.Native.Nat.{ℕ, _+_, _*_, _-_, _≤_, _<_}
-use mathlib.Core.Path.{_≡_, refl, sym, ap, _∙_}
-use mathlib.Core.Bool.{Bool, true, false, not}
+-- What follows the header of a set file: a law for each answer of the code.
+use Prim.Native.Nat.{ℕ, _+_, _-_, _≤_, _<_}
+use mathlib.Core.Path.{_≡_, refl, sym, _∙_}
+use mathlib.Core.Bool.{Bool, false, not}
 use mathlib.Core.List.{List}
 use native.Mathlib.Omega.{arith}
-use lib.ListN.{length, getD}
-use lib.Dec.{leb, ltb}
+use lib.ListN.{length}
+use lib.Dec.{leb}
 use borrow.Author.Tests.{lt-ltb, le-ltb, le-leb, lt-leb, not-false}
-use Rattle.rules.specs.Verdict.{Verdict, granted, refused, refuseIf, _>>=_}
+use Rattle.rules.specs.Verdict.{granted, refused}
 use Rattle.rules.specs.Lists.{numberAt, seek, refuseFirst}
-use Rattle.rules.specs.Edition.{old, countAt, mostRows}
-use Rattle.rules.specs.Shape.{Shape, cells, shapeAt, readHeader}
-use Rattle.rules.specs.SetFile.{TransferSet, leaves, headAt, rowPlace, spelt, fits, named, checkRows, readSet}
-use Rattle.laws.specs.Verdict.{bind-granted}
+use Rattle.rules.specs.Edition.{old, mostRows}
+use Rattle.rules.specs.Shape.{Shape, cells}
+use Rattle.rules.specs.SetFile.{leaves, headAt, rowPlace, spelt, fits, named, checkRows}
 use Rattle.laws.specs.Lists.{Searching, searching-hit, searching-end}
-use Rattle.laws.specs.Shape.{header-granted}
-use Rattle.laws.specs.SetFile.{Accepted, read-accepted}
-use Rattle.base.specs.Answers.{shapeOf, refusedBy}
-use Rattle.base.specs.Refusals.{refusalOf, refusal-back}
-use Rattle.base.specs.declared.shape.Shape as S
-use Rattle.base.specs.declared.refusal.Refusal.{Refusal}
 use Rattle.program.specs.declared.Checked.{Checked}
-use Rattle.program.specs.declared.Checked.the-variants.{Granted, Refused}
-use Rattle.program.specs.declared.header.Headed.{Headed}
-use Rattle.program.specs.declared.header.Headed.the-variants as H
-use Rattle.program.specs.Contracts.{checkedVerdict, headVerdict}
-use Rattle.sets.specs.Spelt.{Sized, spelt-head}
-use Rattle.sets.specs.Contracts.{setVerdict, rowsIn, setIn, Whole, restVerdict, badHead, unfit, unnamed, Among, FitBefore}
+use Rattle.program.specs.Contracts.{checkedVerdict}
+use Rattle.sets.specs.Spelt.{spelt-head}
+use Rattle.sets.specs.Contracts.{rowsIn, setIn, Whole, restVerdict, badHead, unfit, unnamed, Among, FitBefore}
 
 -- ---- the first head that is no row
 
@@ -108,3 +98,32 @@ module _ (file : List ℕ) (sh : Shape) (c : ℕ) (e : c ≡ seek (badHead file 
         first-none (unfit file sh) (rowsIn file) 13 (rowPlace old sh) j f (omega arith),
         first-none (unnamed file sh) (rowsIn file) 13 (rowPlace old sh) k g (omega arith),
       ) refl
+
+-- ---- what follows the header
+
+module _ (file : List ℕ) (sh : Shape) (R : ℕ) (r : R ≡ rowsIn file) where
+  pub rest-count : mostRows < leaves sh + R → refused 3 5 ≡ restVerdict file sh
+  unfolding restVerdict
+  rest-count h = rw (← r, lt-ltb mostRows (leaves sh + R) h) refl
+
+  module _ (h : leaves sh + R ≤ mostRows) (end : ℕ) (e : end ≡ rowPlace old sh R) where
+    pub rest-short : length file < end → refused 1 (length file) ≡ restVerdict file sh
+    unfolding restVerdict
+    rest-short l = rw (← r, le-ltb mostRows (leaves sh + R) h, ← e, lt-ltb (length file) end l) refl
+
+    module _ (l : end ≤ length file) where
+      pub rest-long : end < length file → refused 4 end ≡ restVerdict file sh
+      unfolding restVerdict
+      rest-long m =
+          rw (← r, le-ltb mostRows (leaves sh + R) h, ← e, le-ltb (length file) end l, lt-ltb end (length file) m) refl
+
+      module _ (m : length file ≤ end) where
+        pub rest-whole : Whole file sh
+        rest-whole = record { size = omega arith; room = omega arith }
+
+        pub rest-rows : (k : Checked) → checkedVerdict k ≡ checkRows old (setIn file sh) (rowsIn file)
+            → checkedVerdict k ≡ restVerdict file sh
+        unfolding restVerdict
+        rest-rows k c =
+            rw (← r, le-ltb mostRows (leaves sh + R) h, ← e, le-ltb (length file) end l, le-ltb end (length file) m)
+            (rw (← r) at c)

@@ -6,9 +6,9 @@ use mathlib.Core.List.{List}
 use lib.ListN.{length, getD}
 use lib.Dec.{leb, ltb, eqb}
 use Rattle.rules.specs.Verdict.{Verdict, granted, refuseIf, _>>=_}
-use Rattle.rules.specs.Lists.{numberAt, seek}
+use Rattle.rules.specs.Lists.{numberAt}
 use Rattle.rules.specs.Edition.{old, countAt, mostRows}
-use Rattle.rules.specs.Shape.{Shape, cells}
+use Rattle.rules.specs.Shape.{Shape}
 use Rattle.rules.specs.Rows.{Row, leaf, inv, bin, rowAt, make, plan}
 use Rattle.rules.specs.SetFile.{TransferSet, leaves, rowPlace, spelt, fits, named, checkRows, readSet}
 use Rattle.sets.specs.Spelt.{Sized}

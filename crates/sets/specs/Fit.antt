@@ -1,6 +1,6 @@
 -- Whether a row fits: a law for each answer of the code.
 use Prim.Native.Nat.{ℕ, suc, _+_, _*_, _-_, _≤_, _<_}
-use mathlib.Core.Path.{_≡_, refl, sym, ap, ap₂, _∙_}
+use mathlib.Core.Path.{_≡_, refl, sym, ap, _∙_}
 use mathlib.Core.Bool.{Bool, true, false, cond, not, _&&_, and-true, or-true}
 use mathlib.Core.List.{List}
 use native.Mathlib.Omega.{arith}
@@ -10,7 +10,7 @@ use lib.Dec.{ltb, eqb}
 use borrow.Author.Tests.{lt-ltb, le-ltb, ltb-true, eq-eqb, ne-eqb, eqb-true, not-true, not-false}
 use Rattle.rules.specs.Edition.{old}
 use Rattle.rules.specs.Lists.{numberAt, elem}
-use Rattle.rules.specs.Shape.{Shape, cells}
+use Rattle.rules.specs.Shape.{Shape}
 use Rattle.rules.specs.Rows.{Row, leaf, inv, bin, rowAt, kind, left, right, same, Plan, have, make, planNot, planBin, plan, find}
 use Rattle.rules.specs.Sets.{operands}
 use Rattle.rules.specs.SetFile.{leaves, rowPlace, rowOf, rowIn, allBelow, makes, fits}

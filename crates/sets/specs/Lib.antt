@@ -4,3 +4,4 @@ pub mod Contracts
 pub mod Fit
 pub mod Naming
 pub mod Check
+pub mod Answer

@@ -18,7 +18,7 @@ use Rattle.laws.specs.Lists.{elem-append, elem-at, Searching}
 use Rattle.laws.specs.Named.{named-row}
 use Rattle.laws.specs.Search.{elem-none, operands-none}
 use Rattle.sets.specs.Spelt.{spelt-row, spelt-length, spelt-head, spelt-heads, row-bytes}
-use Rattle.sets.specs.Contracts.{rowsIn, setIn, Whole, Among}
+use Rattle.sets.specs.Contracts.{rowsIn, setIn, Among}
 
 -- ---- heads
 
