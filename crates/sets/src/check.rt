@@ -74,8 +74,7 @@ fn first_unnamed(file: &[u8], shape: Shape) -> usize
 fn check_rows(file: &[u8], shape: Shape) -> Checked
     requires { ⌜ Whole (now file) (shapeOf shape) ⌝ }
     ensures { λ r.
-        ⌜ checkedVerdict r ≡ checkRows old (setIn (now (file .entry)) (shapeOf shape)) (rowsIn (now (file .entry))) ⌝
-    }
+        ⌜ checkedVerdict r ≡ checkRows old (setIn (now (file .entry)) (shapeOf shape)) (rowsIn (now (file .entry))) ⌝ }
 {
     let c = first_bad_head(file, shape);
     if c < shape.cells() {

@@ -102,8 +102,7 @@ fn none_equal(file: &[u8], shape: Shape, last: Row, k: Row) -> bool
     requires { ⌜ Made (now file) (shapeOf shape) (k .0) ⌝ }
     requires { ⌜ last .0 ≡ lastOf (R.rowAt (setIn (now file) (shapeOf shape) .tab) (k .0)) ⌝ }
     ensures { λ r.
-        ⌜ (let t = setIn (now (file .entry)) (shapeOf shape) .tab in r ≡ eqb (R.find t (R.rowAt t (k .0))) (k .0)) ⌝
-    }
+        ⌜ (let t = setIn (now (file .entry)) (shapeOf shape) .tab in r ≡ eqb (R.find t (R.rowAt t (k .0))) (k .0)) ⌝ }
 {
     let first = row_place(shape, 0);
     let n = rows_to(shape, k) - 1;

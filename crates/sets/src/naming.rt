@@ -65,8 +65,7 @@ fn is_operand(file: &[u8], shape: Shape, k: Row) -> bool
     requires { ⌜ Whole (now file) (shapeOf shape) ⌝ }
     requires { ⌜ Among (now file) (shapeOf shape) (k .0) ⌝ }
     ensures { λ r.
-        ⌜ r ≡ elem (k .0) (flatMap operands (drop (suc (k .0)) (setIn (now (file .entry)) (shapeOf shape) .tab))) ⌝
-    }
+        ⌜ r ≡ elem (k .0) (flatMap operands (drop (suc (k .0)) (setIn (now (file .entry)) (shapeOf shape) .tab))) ⌝ }
 {
     let first = row_place(shape, 0);
     let rows = word(file, 5);
@@ -85,8 +84,7 @@ pub fn row_named(file: &[u8], shape: Shape, k: Row) -> bool
     requires { ⌜ Whole (now file) (shapeOf shape) ⌝ }
     requires { ⌜ Among (now file) (shapeOf shape) (k .0) ⌝ }
     ensures { λ r.
-        ⌜ r ≡ named (setIn (now (file .entry)) (shapeOf shape) .tab) (setIn (now (file .entry)) (shapeOf shape) .heads) (k .0) ⌝
-    }
+        ⌜ r ≡ named (setIn (now (file .entry)) (shapeOf shape) .tab) (setIn (now (file .entry)) (shapeOf shape) .heads) (k .0) ⌝ }
 {
     if is_head(file, shape, k) {
         return true;

@@ -1,12 +1,7 @@
 use Rattle.sets.specs.Answer.{set-header, set-long, set-rest}
-use native.Mathlib.Omega.{arith}
 use borrow.Author.Needs.{needs}
 use Rattle.sets.proofs.check_set.Statement.{statement}
 use Rattle.sets.proofs.check_set.Tie as tie
-use Rattle.sets.proofs.check_set.Reads as reads
-use Rattle.sets.proofs.check_set.Lts as lts
-use Rattle.program.proofs.header.read_header.Reads as read-header-reads
-use Rattle.sets.proofs.check.check_rest.Reads as check-rest-reads
 
 read-header-requires : tie.Need-read-header-requires
 read-header-requires c κs = search needs
@@ -15,7 +10,7 @@ enum-known-shape : tie.Need-enum-known-shape
 enum-known-shape c = search needs
 
 check-rest-requires : tie.Need-check-rest-requires
-check-rest-requires c κs = 
+check-rest-requires c κs =
     let h = c .before .before .before .read-header in
     set-long (c .before .before .before .before .before .args .file .now) (h .result) (h .ensures)
     (c .before .shape .given .0 .0) (c .before .shape .given .1)
@@ -24,14 +19,14 @@ enum-known-x : tie.Need-enum-known-x
 enum-known-x c = search needs
 
 returns : tie.Need-returns
-returns c = 
+returns c =
     let h = c .before .before .before .before .read-header in
     set-rest (c .before .before .before .before .before .before .args .file .now) (h .result) (h .ensures)
     (c .before .before .shape .given .0 .0) (c .before .before .shape .given .1)
     (c .check-rest .result) (c .check-rest .ensures)
 
 returns-2 : tie.Need-returns-2
-returns-2 c = 
+returns-2 c =
     let h = c .before .before .before .read-header in
     set-header (c .before .before .before .before .before .args .file .now) (h .result) (h .ensures)
     (c .before .x .given .0 .0) (c .before .x .given .1)

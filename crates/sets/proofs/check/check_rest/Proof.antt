@@ -4,12 +4,6 @@ use native.Mathlib.Omega.{arith}
 use borrow.Author.Needs.{needs}
 use Rattle.sets.proofs.check.check_rest.Statement.{statement}
 use Rattle.sets.proofs.check.check_rest.Tie as tie
-use Rattle.sets.proofs.check.check_rest.Reads as reads
-use Rattle.sets.proofs.check.check_rest.Lts as lts
-use Rattle.base.proofs.bytes.word.Reads as word-reads
-use Rattle.base.proofs.shape.Shape.cells.Reads as cells-reads
-use Rattle.sets.proofs.check.check_rows.Reads as check-rows-reads
-use Rattle.sets.proofs.read.row_place.Reads as row-place-reads
 
 word-requires : tie.Need-word-requires
 word-requires c κs = search needs
@@ -24,7 +18,7 @@ add-if1-2 : tie.Need-add-if1-2
 add-if1-2 c = search needs
 
 returns : tie.Need-returns
-returns c = 
+returns c =
     let a = c .before .before .before .before .args in
     rest-count (a .file .now) (shapeOf (a .shape)) _ (c .before .before .word .ensures .0) (omega (arith, c .before .cells .ensures, c .if1 .taken))
 
@@ -32,27 +26,27 @@ row-place-requires : tie.Need-row-place-requires
 row-place-requires c κs = omega (arith, c .before .before .word .ensures .1)
 
 returns-2 : tie.Need-returns-2
-returns-2 c = 
+returns-2 c =
     let a = c .before .before .before .before .before .before .args in
     rest-short (a .file .now) (shapeOf (a .shape)) _ (c .before .before .before .before .word .ensures .0)
     (omega (arith, c .before .before .before .cells .ensures, c .before .before .if1 .left)) _ (c .before .row-place .ensures) (omega arith)
 
 returns-3 : tie.Need-returns-3
-returns-3 c = 
+returns-3 c =
     let a = c .before .before .before .before .before .before .before .args in
     rest-long (a .file .now) (shapeOf (a .shape)) _ (c .before .before .before .before .before .word .ensures .0)
     (omega (arith, c .before .before .before .before .cells .ensures, c .before .before .before .if1 .left)) _
     (c .before .before .row-place .ensures) (omega arith) (omega arith)
 
 check-rows-requires : tie.Need-check-rows-requires
-check-rows-requires c κs = 
+check-rows-requires c κs =
     let a = c .before .before .before .before .before .before .before .args in
     rest-whole (a .file .now) (shapeOf (a .shape)) _ (c .before .before .before .before .before .word .ensures .0)
     (omega (arith, c .before .before .before .before .cells .ensures, c .before .before .before .if1 .left)) _
     (c .before .before .row-place .ensures) (omega arith) (omega arith)
 
 returns-4 : tie.Need-returns-4
-returns-4 c = 
+returns-4 c =
     let d = c .before in
     let a = d .before .before .before .before .before .before .before .args in
     rest-rows (a .file .now) (shapeOf (a .shape)) _ (d .before .before .before .before .before .word .ensures .0)

@@ -4,14 +4,6 @@ use native.Mathlib.Omega.{arith}
 use borrow.Author.Needs.{needs}
 use Rattle.sets.proofs.check.check_rows.Statement.{statement}
 use Rattle.sets.proofs.check.check_rows.Tie as tie
-use Rattle.sets.proofs.check.check_rows.Reads as reads
-use Rattle.sets.proofs.check.check_rows.Lts as lts
-use Rattle.base.proofs.bytes.word.Reads as word-reads
-use Rattle.base.proofs.shape.Shape.cells.Reads as cells-reads
-use Rattle.sets.proofs.check.first_bad_head.Reads as first-bad-head-reads
-use Rattle.sets.proofs.check.first_unfit.Reads as first-unfit-reads
-use Rattle.sets.proofs.check.first_unnamed.Reads as first-unnamed-reads
-use Rattle.sets.proofs.read.row_place.Reads as row-place-reads
 
 first-bad-head-requires : tie.Need-first-bad-head-requires
 first-bad-head-requires c κs = search needs
@@ -26,7 +18,7 @@ add-t10 : tie.Need-add-t10
 add-t10 c = omega (arith, c .before .cells .ensures, c .if1 .taken, c .before .before .before .before .pre .room)
 
 returns : tie.Need-returns
-returns c = 
+returns c =
     let a = c .before .before .before .before .args in
     rows-head (a .file .now) (shapeOf (a .shape)) _ (c .before .before .first-bad-head .ensures) (omega (arith, c .before .cells .ensures, c .if1 .taken))
 
@@ -40,7 +32,7 @@ row-place-requires : tie.Need-row-place-requires
 row-place-requires c κs = omega (arith, c .if2 .taken, c .before .before .word .ensures .1)
 
 returns-2 : tie.Need-returns-2
-returns-2 c = 
+returns-2 c =
     let a = c .before .before .before .before .before .before .before .before .args in
     rows-unfit (a .file .now) (shapeOf (a .shape)) _ (c .before .before .before .before .before .before .first-bad-head .ensures)
     (omega (arith, c .before .before .before .before .before .cells .ensures, c .before .before .before .before .if1 .left)) _
@@ -53,7 +45,7 @@ row-place-requires-2 : tie.Need-row-place-requires-2
 row-place-requires-2 c κs = omega (arith, c .if3 .taken, c .before .before .before .before .word .ensures .1)
 
 returns-3 : tie.Need-returns-3
-returns-3 c = 
+returns-3 c =
     let d = c .before .before .before in
     let a = d .before .before .before .before .before .before .before .args in
     rows-unnamed (a .file .now) (shapeOf (a .shape)) _ (d .before .before .before .before .before .first-bad-head .ensures)
@@ -62,7 +54,7 @@ returns-3 c =
     (c .before .if3 .taken) _ (c .row-place2 .ensures)
 
 returns-4 : tie.Need-returns-4
-returns-4 c = 
+returns-4 c =
     let d = c .before .before in
     let a = d .before .before .before .before .before .before .before .args in
     rows-good (a .file .now) (shapeOf (a .shape)) _ (d .before .before .before .before .before .first-bad-head .ensures)

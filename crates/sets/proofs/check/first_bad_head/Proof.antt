@@ -1,5 +1,4 @@
-use Prim.Native.Nat.{_+_, _-_, _≤_}
-use mathlib.Core.Path.{refl, sym, ap, _∙_}
+use Prim.Native.Nat.{_-_, _≤_}
 use lib.Dec.{leb}
 use Rattle.base.specs.Answers.{shapeOf}
 use Rattle.rules.specs.SetFile.{headAt}
@@ -11,11 +10,6 @@ use native.Mathlib.Omega.{arith}
 use borrow.Author.Needs.{needs}
 use Rattle.sets.proofs.check.first_bad_head.Statement.{statement}
 use Rattle.sets.proofs.check.first_bad_head.Tie as tie
-use Rattle.sets.proofs.check.first_bad_head.Reads as reads
-use Rattle.sets.proofs.check.first_bad_head.Lts as lts
-use Rattle.base.proofs.bytes.word.Reads as word-reads
-use Rattle.base.proofs.shape.Shape.cells.Reads as cells-reads
-use Rattle.sets.proofs.read.head_in.Reads as head-in-reads
 
 abbrev Inv-loop : tie.InvT-loop
 Inv-loop file cells rows c₀ c = Searching (λ c. leb rows (numberAt 2 file (headAt old c))) c₀ c × (c ≤ cells)
@@ -48,7 +42,7 @@ cast-if1 : tie.Need-cast-if1 Inv-loop μ-loop
 cast-if1 c = search needs
 
 returns : tie.Need-returns Inv-loop μ-loop
-returns c = 
+returns c =
     let s = c .before .before .before .before .before .before .before .before in
     let a = s .args in
     let q = c .before .before .before .before .before .before .cells .ensures in
@@ -64,7 +58,7 @@ loop-again : tie.Need-loop-again Inv-loop μ-loop
 loop-again c = (searching-more _ (c .before .before .before .before .loop .inv .0) (head-fine _ _ _ _ (c .before .before .head-in .ensures) (c .if1 .left)), omega arith)
 
 returns-2 : tie.Need-returns-2 Inv-loop μ-loop
-returns-2 c = 
+returns-2 c =
     let s = c .before .before .before .before .before in
     let a = s .args in
     let q = c .before .before .before .cells .ensures in

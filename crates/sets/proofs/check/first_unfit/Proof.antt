@@ -1,5 +1,5 @@
 use Prim.Native.Nat.{_+_, _-_, _≤_}
-use mathlib.Core.Path.{refl, sym, ap, _∙_}
+use mathlib.Core.Path.{sym, ap, _∙_}
 use Rattle.base.specs.Answers.{shapeOf}
 use Rattle.laws.specs.Lists.{Searching, searching-start, searching-more, searching-hit, searching-end}
 use Rattle.sets.specs.Contracts.{unfit}
@@ -8,11 +8,6 @@ use native.Mathlib.Omega.{arith}
 use borrow.Author.Needs.{needs}
 use Rattle.sets.proofs.check.first_unfit.Statement.{statement}
 use Rattle.sets.proofs.check.first_unfit.Tie as tie
-use Rattle.sets.proofs.check.first_unfit.Reads as reads
-use Rattle.sets.proofs.check.first_unfit.Lts as lts
-use Rattle.base.proofs.bytes.word.Reads as word-reads
-use Rattle.base.proofs.shape.Shape.cells.Reads as cells-reads
-use Rattle.sets.proofs.fit.row_fits.Reads as row-fits-reads
 
 abbrev Inv-loop : tie.InvT-loop
 Inv-loop file shape leaves rows j₀ j = Searching (unfit file (shapeOf shape)) j₀ j × (j ≤ rows)
@@ -36,19 +31,19 @@ add-t8 : tie.Need-add-t8 Inv-loop μ-loop
 add-t8 c = search needs
 
 cast-t9 : tie.Need-cast-t9 Inv-loop μ-loop
-cast-t9 c = 
+cast-t9 c =
     let s = c .before .before .before .before .before in
     omega (arith, s .pre .room, c .before .before .before .cells .ensures, c .before .before .word .ensures .0, c .loop-test .taken)
 
 row-fits-requires : tie.Need-row-fits-requires Inv-loop μ-loop
-row-fits-requires c κs = 
+row-fits-requires c κs =
     let s = c .before .before .before .before .before in
     let l = ap (λ x. 2 + x) (c .before .before .before .cells .ensures) in
     let w = c .before .before .word .ensures .0 in
     (s .pre, (among (s .args .file .now) (shapeOf (s .args .shape)) (s .pre) _ _ _ l w (c .loop-test .taken), fit-before (s .args .file .now) (shapeOf (s .args .shape)) (s .pre) _ _ _ l w (c .before .loop .inv .0)))
 
 returns : tie.Need-returns Inv-loop μ-loop
-returns c = 
+returns c =
     let s = c .before .before .before .before .before .before .before in
     let a = s .args in
     let t = unfit-row (a .file .now) (shapeOf (a .shape)) _ _ (ap (λ x. 2 + x) (c .before .before .before .before .before .cells .ensures)) _ (c .before .row-fits .ensures) in
@@ -61,7 +56,7 @@ loop-less : tie.Need-loop-less Inv-loop μ-loop
 loop-less c = search needs
 
 loop-again : tie.Need-loop-again Inv-loop μ-loop
-loop-again c = 
+loop-again c =
     let s = c .before .before .before .before .before .before .before in
     let a = s .args in
     let t = unfit-row (a .file .now) (shapeOf (a .shape)) _ _ (ap (λ x. 2 + x) (c .before .before .before .before .before .cells .ensures)) _ (c .before .row-fits .ensures) in

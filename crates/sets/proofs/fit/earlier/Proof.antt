@@ -1,12 +1,9 @@
 use mathlib.Core.Path.{ap}
 use Rattle.rows.specs.Entries.{nodeRow}
 use Rattle.sets.specs.Fit.{earlier-leaf, earlier-not, earlier-two, late-two}
-use native.Mathlib.Omega.{arith}
 use borrow.Author.Needs.{needs}
 use Rattle.sets.proofs.fit.earlier.Statement.{statement}
 use Rattle.sets.proofs.fit.earlier.Tie as tie
-use Rattle.sets.proofs.fit.earlier.Reads as reads
-use Rattle.sets.proofs.fit.earlier.Lts as lts
 
 enum-told : tie.Need-enum-told
 enum-told c = search needs

@@ -1,13 +1,9 @@
 use mathlib.Core.Path.{ap}
 use Rattle.rows.specs.Entries.{planRow}
 use Rattle.sets.specs.Fit.{makes-made}
-use native.Mathlib.Omega.{arith}
 use borrow.Author.Needs.{needs}
 use Rattle.sets.proofs.fit.makes.Statement.{statement}
 use Rattle.sets.proofs.fit.makes.Tie as tie
-use Rattle.sets.proofs.fit.makes.Reads as reads
-use Rattle.sets.proofs.fit.makes.Lts as lts
-use Rattle.rows.proofs.node.same_node.Reads as same-node-reads
 
 enum-told : tie.Need-enum-told
 enum-told c = search needs

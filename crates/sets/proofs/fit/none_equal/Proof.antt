@@ -8,11 +8,6 @@ use native.Mathlib.Omega.{arith}
 use borrow.Author.Needs.{needs}
 use Rattle.sets.proofs.fit.none_equal.Statement.{statement}
 use Rattle.sets.proofs.fit.none_equal.Tie as tie
-use Rattle.sets.proofs.fit.none_equal.Reads as reads
-use Rattle.sets.proofs.fit.none_equal.Lts as lts
-use Rattle.sets.proofs.fit.rows_to.Reads as rows-to-reads
-use Rattle.sets.proofs.fit.same_bytes.Reads as same-bytes-reads
-use Rattle.sets.proofs.read.row_place.Reads as row-place-reads
 
 abbrev Inv-loop : tie.InvT-loop
 Inv-loop file first n at j₀ j = Searching (λ i. sameAt file (first + 5 * i) at) j₀ j
@@ -30,12 +25,12 @@ sub-n : tie.Need-sub-n Inv-loop μ-loop
 sub-n c = omega (arith, c .rows-to .ensures, c .before .before .before .pre .1 .0 .high)
 
 mul-at : tie.Need-mul-at Inv-loop μ-loop
-mul-at c = 
+mul-at c =
     let s = c .before .before .before in
     omega (arith, c .rows-to .ensures, s .pre .1 .0 .high)
 
 add-at : tie.Need-add-at Inv-loop μ-loop
-add-at c = 
+add-at c =
     let s = c .before .before .before in
     omega (arith, c .rows-to .ensures, c .before .row-place .ensures, s .pre .1 .0 .high)
 
@@ -52,7 +47,7 @@ add-same-bytes : tie.Need-add-same-bytes Inv-loop μ-loop
 add-same-bytes c = search needs
 
 same-bytes-requires : tie.Need-same-bytes-requires Inv-loop μ-loop
-same-bytes-requires c κs = 
+same-bytes-requires c κs =
     let s = c .before .before .before .before .before .before in
     let p = c .before .before .before .before .row-place .ensures in
     let r = c .before .before .before .rows-to .ensures in
@@ -62,7 +57,7 @@ same-bytes-requires c κs =
     (omega arith, omega arith)
 
 returns : tie.Need-returns Inv-loop μ-loop
-returns c = 
+returns c =
     let s = c .before .before .before .before .before .before .before .before in
     let a = s .args in
     let n = ap (λ x. x - 1) (c .before .before .before .before .before .rows-to .ensures) in
@@ -78,7 +73,7 @@ loop-again : tie.Need-loop-again Inv-loop μ-loop
 loop-again c = searching-more _ (c .before .before .before .loop .inv) (sym (c .before .same-bytes .ensures) ∙ c .if1 .left)
 
 returns-2 : tie.Need-returns-2 Inv-loop μ-loop
-returns-2 c = 
+returns-2 c =
     let s = c .before .before .before .before .before .before in
     let a = s .args in
     let n = ap (λ x. x - 1) (c .before .before .before .rows-to .ensures) in

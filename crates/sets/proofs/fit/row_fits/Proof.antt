@@ -10,17 +10,9 @@ use native.Mathlib.Omega.{arith}
 use borrow.Author.Needs.{needs}
 use Rattle.sets.proofs.fit.row_fits.Statement.{statement}
 use Rattle.sets.proofs.fit.row_fits.Tie as tie
-use Rattle.sets.proofs.fit.row_fits.Reads as reads
-use Rattle.sets.proofs.fit.row_fits.Lts as lts
-use Rattle.sets.proofs.fit.earlier.Reads as earlier-reads
-use Rattle.sets.proofs.fit.last_operand.Reads as last-operand-reads
-use Rattle.sets.proofs.fit.makes.Reads as makes-reads
-use Rattle.sets.proofs.fit.none_equal.Reads as none-equal-reads
-use Rattle.sets.proofs.fit.plan_in.Reads as plan-in-reads
-use Rattle.sets.proofs.read.row_in.Reads as row-in-reads
 
 row-in-requires : tie.Need-row-in-requires
-row-in-requires c κs = 
+row-in-requires c κs =
     let s = c .before in
     inside (s .args .file .now) (shapeOf (s .args .shape)) (s .pre .0) _ (s .pre .1 .0)
 
@@ -28,14 +20,14 @@ earlier-requires : tie.Need-earlier-requires
 earlier-requires c κs = search needs
 
 returns : tie.Need-returns
-returns c = 
+returns c =
     let s = c .before .before .before .before in
     let a = s .args in
     let q = here (a .file .now) (shapeOf (a .shape)) (s .pre .0) _ (s .pre .1 .0) _ (c .before .before .row-in .ensures) in
     fits-late _ _ _ q _ (c .before .earlier .ensures) (c .if1 .taken)
 
 plan-in-requires : tie.Need-plan-in-requires
-plan-in-requires c κs = 
+plan-in-requires c κs =
     let s = c .before .before .before .before in
     let a = s .args in
     let q = here (a .file .now) (shapeOf (a .shape)) (s .pre .0) _ (s .pre .1 .0) _ (c .before .before .row-in .ensures) in
@@ -45,7 +37,7 @@ makes-requires : tie.Need-makes-requires
 makes-requires c κs = search needs
 
 returns-2 : tie.Need-returns-2
-returns-2 c = 
+returns-2 c =
     let s = c .before .before .before .before .before .before .before in
     let a = s .args in
     let q = here (a .file .now) (shapeOf (a .shape)) (s .pre .0) _ (s .pre .1 .0) _ (c .before .before .before .before .before .row-in .ensures) in
@@ -55,7 +47,7 @@ last-operand-requires : tie.Need-last-operand-requires
 last-operand-requires c κs = search needs
 
 none-equal-requires : tie.Need-none-equal-requires
-none-equal-requires c κs = 
+none-equal-requires c κs =
     let s = c .before .before .before .before .before .before .before .before in
     let a = s .args in
     let q = here (a .file .now) (shapeOf (a .shape)) (s .pre .0) _ (s .pre .1 .0) _ (c .before .before .before .before .before .before .row-in .ensures) in
@@ -67,7 +59,7 @@ none-equal-requires c κs =
     (s .pre .0, (s .pre .1 .0, (s .pre .1 .1, (rw q at b, (m, c .last-operand .ensures ∙ ap lastOf q)))))
 
 returns-3 : tie.Need-returns-3
-returns-3 c = 
+returns-3 c =
     let s = c .before .before .before .before .before .before .before .before .before in
     let a = s .args in
     let q = here (a .file .now) (shapeOf (a .shape)) (s .pre .0) _ (s .pre .1 .0) _ (c .before .before .before .before .before .before .before .row-in .ensures) in

@@ -1,11 +1,7 @@
 use Rattle.sets.specs.Fit.{right-differs, left-differs, kind-decides}
-use native.Mathlib.Omega.{arith}
 use borrow.Author.Needs.{needs}
 use Rattle.sets.proofs.fit.same_bytes.Statement.{statement}
 use Rattle.sets.proofs.fit.same_bytes.Tie as tie
-use Rattle.sets.proofs.fit.same_bytes.Reads as reads
-use Rattle.sets.proofs.fit.same_bytes.Lts as lts
-use Rattle.base.proofs.bytes.word.Reads as word-reads
 
 add-word : tie.Need-add-word
 add-word c = search needs

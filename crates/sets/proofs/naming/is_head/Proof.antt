@@ -1,5 +1,5 @@
 use Prim.Native.Nat.{_-_}
-use mathlib.Core.Path.{sym, ap, _∙_}
+use mathlib.Core.Path.{sym, _∙_}
 use borrow.Author.Tests.{ne-eqb}
 use lib.Dec.{eqb}
 use Rattle.base.specs.Answers.{shapeOf}
@@ -12,10 +12,6 @@ use native.Mathlib.Omega.{arith}
 use borrow.Author.Needs.{needs}
 use Rattle.sets.proofs.naming.is_head.Statement.{statement}
 use Rattle.sets.proofs.naming.is_head.Tie as tie
-use Rattle.sets.proofs.naming.is_head.Reads as reads
-use Rattle.sets.proofs.naming.is_head.Lts as lts
-use Rattle.base.proofs.shape.Shape.cells.Reads as cells-reads
-use Rattle.sets.proofs.read.head_in.Reads as head-in-reads
 
 abbrev Inv-loop : tie.InvT-loop
 Inv-loop file k cells c₀ c = Searching (λ c. eqb (k .0) (numberAt 2 file (headAt old c))) c₀ c
@@ -30,17 +26,17 @@ loop-holds : tie.Need-loop-holds Inv-loop μ-loop
 loop-holds c = searching-start
 
 cast-t8 : tie.Need-cast-t8 Inv-loop μ-loop
-cast-t8 c = 
+cast-t8 c =
     let s = c .before .before .before .before in
     omega (arith, c .before .before .cells .ensures, s .pre .room)
 
 head-in-requires : tie.Need-head-in-requires Inv-loop μ-loop
-head-in-requires c κs = 
+head-in-requires c κs =
     let s = c .before .before .before .before in
     omega (arith, c .before .before .cells .ensures, s .pre .size)
 
 returns : tie.Need-returns Inv-loop μ-loop
-returns c = 
+returns c =
     let s = c .before .before .before .before .before .before .before .before in
     let a = s .args in
     head-is (a .file .now) (shapeOf (a .shape)) _ _ (omega (arith, c .before .before .before .before .before .before .cells .ensures, c .before .before .before .before .loop-test .taken)) (sym (c .before .before .before .head-in .ensures) ∙ c .if1 .taken)
@@ -55,7 +51,7 @@ loop-again : tie.Need-loop-again Inv-loop μ-loop
 loop-again c = searching-more _ (c .before .before .before .before .before .loop .inv) (ne-eqb _ _ λ e. c .if1 .left (c .before .before .before .head-in .ensures ∙ sym e))
 
 returns-2 : tie.Need-returns-2 Inv-loop μ-loop
-returns-2 c = 
+returns-2 c =
     let s = c .before .before .before .before in
     let a = s .args in
     head-none (a .file .now) (shapeOf (a .shape)) _ _ (omega (arith, c .before .before .cells .ensures, c .loop-test .left)) (c .before .loop .inv)

@@ -10,12 +10,6 @@ use native.Mathlib.Omega.{arith}
 use borrow.Author.Needs.{needs}
 use Rattle.sets.proofs.naming.is_operand.Statement.{statement}
 use Rattle.sets.proofs.naming.is_operand.Tie as tie
-use Rattle.sets.proofs.naming.is_operand.Reads as reads
-use Rattle.sets.proofs.naming.is_operand.Lts as lts
-use Rattle.base.proofs.bytes.word.Reads as word-reads
-use Rattle.sets.proofs.fit.rows_to.Reads as rows-to-reads
-use Rattle.sets.proofs.naming.names_at.Reads as names-at-reads
-use Rattle.sets.proofs.read.row_place.Reads as row-place-reads
 
 abbrev Inv-loop : tie.InvT-loop
 Inv-loop file k first rows j₀ j = Searching (λ j. elem (k .0) (operands (rowIn file (first + 5 * j)))) j₀ j
@@ -36,21 +30,21 @@ loop-holds : tie.Need-loop-holds Inv-loop μ-loop
 loop-holds c = searching-start
 
 mul-names-at : tie.Need-mul-names-at Inv-loop μ-loop
-mul-names-at c = 
+mul-names-at c =
     omega (arith, c .before .before .before .word .ensures .1)
 
 add-names-at : tie.Need-add-names-at Inv-loop μ-loop
-add-names-at c = 
+add-names-at c =
     let s = c .before .before .before .before .before .before in
     omega (arith, c .before .before .before .before .row-place .ensures, c .before .before .before .word .ensures .1, s .pre .0 .room)
 
 names-at-requires : tie.Need-names-at-requires Inv-loop μ-loop
-names-at-requires c κs = 
+names-at-requires c κs =
     let s = c .before .before .before .before .before .before in
     omega (arith, c .before .before .before .before .row-place .ensures, c .before .before .before .word .ensures .0, s .pre .0 .size)
 
 returns : tie.Need-returns Inv-loop μ-loop
-returns c = 
+returns c =
     let s = c .before .before .before .before .before .before .before .before in
     let a = s .args in
     operand-is (a .file .now) (shapeOf (a .shape)) _ (s .pre .1) _ _ (c .before .before .before .before .before .before .row-place .ensures) (c .before .before .before .before .before .word .ensures .0) _ (omega (arith, c .before .before .before .before .rows-to .ensures, c .before .before .before .loop .inv .low)) (c .before .before .loop-test .taken) (sym (c .before .names-at .ensures) ∙ c .if1 .taken)
@@ -65,7 +59,7 @@ loop-again : tie.Need-loop-again Inv-loop μ-loop
 loop-again c = searching-more _ (c .before .before .before .loop .inv) (sym (c .before .names-at .ensures) ∙ c .if1 .left)
 
 returns-2 : tie.Need-returns-2 Inv-loop μ-loop
-returns-2 c = 
+returns-2 c =
     let s = c .before .before .before .before .before .before in
     let a = s .args in
     operand-none (a .file .now) (shapeOf (a .shape)) _ (s .pre .1) _ _ (c .before .before .before .before .row-place .ensures) (c .before .before .before .word .ensures .0) _ _ (c .loop-test .left) (c .before .before .rows-to .ensures) (c .before .loop .inv)

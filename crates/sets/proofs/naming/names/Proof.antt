@@ -1,12 +1,9 @@
 use mathlib.Core.Path.{ap}
 use Rattle.rows.specs.Entries.{nodeRow}
 use Rattle.sets.specs.Naming.{names-leaf, names-not, names-first, names-second}
-use native.Mathlib.Omega.{arith}
 use borrow.Author.Needs.{needs}
 use Rattle.sets.proofs.naming.names.Statement.{statement}
 use Rattle.sets.proofs.naming.names.Tie as tie
-use Rattle.sets.proofs.naming.names.Reads as reads
-use Rattle.sets.proofs.naming.names.Lts as lts
 
 enum-told : tie.Need-enum-told
 enum-told c = search needs

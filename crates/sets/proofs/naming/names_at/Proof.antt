@@ -2,15 +2,9 @@ use mathlib.Core.Path.{ap, _∙_}
 use Rattle.rules.specs.Sets.{operands}
 use Rattle.rules.specs.Lists.{elem}
 use Rattle.sets.specs.Naming.{names-none}
-use native.Mathlib.Omega.{arith}
 use borrow.Author.Needs.{needs}
 use Rattle.sets.proofs.naming.names_at.Statement.{statement}
 use Rattle.sets.proofs.naming.names_at.Tie as tie
-use Rattle.sets.proofs.naming.names_at.Reads as reads
-use Rattle.sets.proofs.naming.names_at.Lts as lts
-use Rattle.base.proofs.bytes.word.Reads as word-reads
-use Rattle.sets.proofs.naming.names.Reads as names-reads
-use Rattle.sets.proofs.read.node_in.Reads as node-in-reads
 
 cast-x : tie.Need-cast-x
 cast-x c = search needs

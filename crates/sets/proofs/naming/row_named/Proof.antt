@@ -1,12 +1,7 @@
 use Rattle.sets.specs.Naming.{named-by-head, named-by-row}
-use native.Mathlib.Omega.{arith}
 use borrow.Author.Needs.{needs}
 use Rattle.sets.proofs.naming.row_named.Statement.{statement}
 use Rattle.sets.proofs.naming.row_named.Tie as tie
-use Rattle.sets.proofs.naming.row_named.Reads as reads
-use Rattle.sets.proofs.naming.row_named.Lts as lts
-use Rattle.sets.proofs.naming.is_head.Reads as is-head-reads
-use Rattle.sets.proofs.naming.is_operand.Reads as is-operand-reads
 
 is-head-requires : tie.Need-is-head-requires
 is-head-requires c κs = search needs
