@@ -1,16 +1,17 @@
 -- Searching a table: for an equal row, which may begin after an operand; for a number in a list; for what names a row.
 use Prim.Native.Nat.{ℕ, suc, _-_, _≤_, _<_}
-use mathlib.Core.Path.{_≡_, refl}
+use mathlib.Core.Path.{_≡_, refl, sym, _∙_}
 use mathlib.Core.Bool.{Bool, true, false}
-use mathlib.Core.List.{List}
+use mathlib.Core.List.{List, [], _∷_, flatMap}
 use native.Mathlib.Omega.{arith}
 use native.Mathlib.Decide.{decLt}
-use lib.ListN.{length}
+use lib.ListN.{length, getD}
+use lib.Dec.{eqb}
 use Rattle.rules.specs.Lists.{elem, seek}
 use Rattle.rules.specs.Rows.{Row, rowAt, same, find}
 use Rattle.rules.specs.Sets.{operands}
 use Rattle.laws.specs.Canonical.{Below}
-use Rattle.laws.specs.Lists.{Searching, searching-hit, searching-end}
+use Rattle.laws.specs.Lists.{elem-append, Searching, searching-hit, searching-end}
 use Rattle.laws.specs.Rows.{Inserts, stood, fresh, inserts, find-first, same-true, same-refl}
 use Rattle.laws.specs.Reach.{operands-low}
 
@@ -45,3 +46,19 @@ none-early t r a n e h b i l = go (same (rowAt t i) r) refl
         let z : _≡_ {A = ℕ} 0 1 = cc in
         absurd (omega arith)
     go false q = refl
+
+-- ---- a number in a list, an operand among rows
+
+-- A number that stands at no place of a list is not in it.
+pub elem-none : (k : ℕ) (l : List ℕ) → ((c : ℕ) → c < length l → eqb k (getD l c 0) ≡ false) → elem k l ≡ false
+unfolding elem
+elem-none k [] e = refl
+elem-none k (x ∷ l) e = rw (e 0 (omega arith)) (elem-none k l (λ c h. e (suc c) (omega arith)))
+
+-- R26: a row that no row of a list names is no operand of theirs.
+pub operands-none : (k : ℕ) (l : List Row) → ((j : ℕ) → j < length l → elem k (operands (rowAt l j)) ≡ false)
+    → elem k (flatMap operands l) ≡ false
+unfolding flatMap elem
+operands-none k [] e = refl
+operands-none k (r ∷ l) e = elem-append k (operands r) (flatMap operands l)
+    ∙ rw (e 0 (omega arith)) (operands-none k l (λ j h. e (suc j) (omega arith)))

@@ -110,12 +110,15 @@ module _ (file : List ℕ) (sh : Shape) (r : ℕ) where
 
 -- ---- an accepted file
 
--- R41: how many operation rows a file says that it has, and the set that it spells.
+-- R41: how many operation rows a file counts, the set that it spells with a shape, and with its own.
 abbrev pub rowsIn : List ℕ → ℕ
 rowsIn file = numberAt 2 file (countAt old)
 
+abbrev pub setWith : List ℕ → Shape → TransferSet
+setWith file sh = spelt old file sh (rowsIn file)
+
 abbrev pub setIn : List ℕ → TransferSet
-setIn file = spelt old file (shapeAt old file) (rowsIn file)
+setIn file = setWith file (shapeAt old file)
 
 -- R49: the file is accepted.
 abbrev pub Taken : List ℕ → Type 0

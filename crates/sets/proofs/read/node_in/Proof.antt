@@ -1,11 +1,7 @@
 use Rattle.sets.specs.Spelt.{of-and, of-or, of-not, of-none, of-spare}
-use native.Mathlib.Omega.{arith}
 use borrow.Author.Needs.{needs}
 use Rattle.sets.proofs.read.node_in.Statement.{statement}
 use Rattle.sets.proofs.read.node_in.Tie as tie
-use Rattle.sets.proofs.read.node_in.Reads as reads
-use Rattle.sets.proofs.read.node_in.Lts as lts
-use Rattle.sets.proofs.read.row_word.Reads as row-word-reads
 
 shared-slice-read-kind : tie.Need-shared-slice-read-kind
 shared-slice-read-kind c = search needs

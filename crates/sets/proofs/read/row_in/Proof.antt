@@ -1,15 +1,10 @@
 use mathlib.Core.Path.{_∙_}
 use Rattle.base.specs.Answers.{shapeOf}
-use Rattle.sets.specs.Spelt.{row-leaf, row-bytes, placed}
+use Rattle.sets.specs.Spelt.{row-leaf, placed}
 use native.Mathlib.Omega.{arith}
 use borrow.Author.Needs.{needs}
 use Rattle.sets.proofs.read.row_in.Statement.{statement}
 use Rattle.sets.proofs.read.row_in.Tie as tie
-use Rattle.sets.proofs.read.row_in.Reads as reads
-use Rattle.sets.proofs.read.row_in.Lts as lts
-use Rattle.base.proofs.shape.Shape.cells.Reads as cells-reads
-use Rattle.sets.proofs.read.node_in.Reads as node-in-reads
-use Rattle.sets.proofs.read.row_place.Reads as row-place-reads
 
 cast-at : tie.Need-cast-at
 cast-at c = search needs
