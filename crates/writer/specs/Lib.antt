@@ -1,0 +1,5 @@
+-- Writing a set: bytes at their places, marks, new numbers, the rows that are kept, and the contracts.
+pub mod Put
+pub mod Kept
+pub mod Contracts
+pub mod Marks

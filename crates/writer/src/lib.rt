@@ -1,0 +1,9 @@
+// Writes
+pub mod put;
+use base::refusal::Refusal;
+
+// How writing a set ended.
+pub enum Written {
+    Length(usize),
+    Refused(Refusal),
+}
