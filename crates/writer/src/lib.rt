@@ -1,5 +1,6 @@
 // Writes
 pub mod put;
+pub mod reach;
 use base::refusal::Refusal;
 
 // How writing a set ended.
