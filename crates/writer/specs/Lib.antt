@@ -3,3 +3,4 @@ pub mod Put
 pub mod Kept
 pub mod Contracts
 pub mod Marks
+pub mod Numbers

@@ -1,4 +1,5 @@
 // Writes
+pub mod number;
 pub mod put;
 pub mod reach;
 use base::refusal::Refusal;
