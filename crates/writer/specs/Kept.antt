@@ -85,7 +85,7 @@ pub record PutsKept (rows numbers : List ℕ) (k at : ℕ) (before after : List 
   pub is : after ≡ putAt before at (flatMap rowBytes (keptAt rows numbers k))
   pub moves : next ≡ at + 5 * length (keptAt rows numbers k)
 
-kept-one : (rows numbers : List ℕ) (k : ℕ) → (getD numbers k 0 ≡ 0 → ⊥)
+pub kept-one : (rows numbers : List ℕ) (k : ℕ) → (getD numbers k 0 ≡ 0 → ⊥)
     → keptAt rows numbers k ≡ ren numbers (rowOfEntry (getD rows k 0)) ∷ []
 kept-one rows numbers k n = rw (ne-eqb (getD numbers k 0) 0 n)
 

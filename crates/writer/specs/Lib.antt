@@ -4,3 +4,5 @@ pub mod Kept
 pub mod Contracts
 pub mod Marks
 pub mod Numbers
+pub mod Write
+pub mod Table
