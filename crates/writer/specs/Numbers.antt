@@ -16,7 +16,7 @@ use Rattle.laws.specs.Canonical.{Canonical}
 use Rattle.laws.specs.Rule.{canonical-ready}
 use Rattle.laws.specs.Rows.{length-base}
 use Rattle.laws.specs.After.{snoc-last, snoc-old}
-use Rattle.laws.specs.Squeeze.{ren, carry-op, unchanging-at, Packed, packed}
+use Rattle.laws.specs.Squeeze.{ren, carry-op, unchanging-at, packed}
 use Rattle.writer.specs.Marks.{Reached}
 
 -- The next number, and numbers of which those of the rows so far are new and the others still marks.
@@ -92,8 +92,8 @@ abbrev pub carried : ℕ → List Row → List ℕ → ℕ → Carried
 carried C t x k = carry append (base C) (unchanging C) t x k
 
 -- After k rows: those that are reached have the numbers of the rules, operation rows that are not have 0, and those to come have marks.
-pub record Numbered (C : ℕ) (t : List Row) (x marks : List ℕ) (k : ℕ) (s : Numbering) : Type 0 where
-  pub size : length (s .new) ≡ length marks
+pub record Numbered (C : ℕ) (t : List Row) (x : List ℕ) (k : ℕ) (s : Numbering) : Type 0 where
+  pub size : length t ≤ length (s .new)
   pub next : s .next ≡ length (carried C t x k .tab)
   pub reached : (i : ℕ) → i < k → reaches t x i ≡ true → getD (s .new) i 0 ≡ getD (carried C t x k .new) i 0
   pub skipped : (i : ℕ) → 2 + C ≤ i → i < k → reaches t x i ≡ false → getD (s .new) i 0 ≡ 0
@@ -119,15 +119,15 @@ module _ {C : ℕ} {t : List Row} (w : Canonical C t) (x : List ℕ) (k : ℕ) (
   unfolding carry
   carried-none q = ap (carryRow append (unchanging C) (carried C t x k) (rowAt t k)) q
 
-module _ {C : ℕ} {t : List Row} {x marks : List ℕ} (w : Canonical C t) (r : Reached t x marks) where
-  numbered-one : (k : ℕ) (s u : Numbering) (a : ℕ) → Numbered C t x marks k s → k < length t
+module _ {C : ℕ} {t : List Row} {x : List ℕ} (w : Canonical C t) where
+  numbered-one : (k : ℕ) (s u : Numbering) (a : ℕ) → Numbered C t x k s → k < length t
       → carried C t x (suc k) .new ≡ carried C t x k .new ++ (a ∷ [])
       → u .next ≡ length (carried C t x (suc k) .tab) → length (u .new) ≡ length (s .new)
       → ((i : ℕ) → (i ≡ k → ⊥) → getD (u .new) i 0 ≡ getD (s .new) i 0)
       → (reaches t x k ≡ true → getD (u .new) k 0 ≡ a) → (2 + C ≤ k → reaches t x k ≡ false → getD (u .new) k 0 ≡ 0)
-      → Numbered C t x marks (suc k) u
+      → Numbered C t x (suc k) u
   numbered-one k s u a n h e next size other here none = record {
-    size = size ∙ n .size;
+    size = omega (arith, size, n .size);
     next = next;
     reached = λ i l q. elim (decLt i k) [
       | yes p ↦ other i (λ z. omega arith) ∙ n .reached i p q ∙ sym (ap (λ l. getD l i 0) e ∙ snoc-old (carried C t x k .new) a k long i p)
@@ -143,16 +143,16 @@ module _ {C : ℕ} {t : List Row} {x marks : List ℕ} (w : Canonical C t) (r : 
       long : length (carried C t x k .new) ≡ k
       long = packed t x w k (omega arith) .size
 
-  numbered-row : (k : ℕ) (s : Numbering) → Numbered C t x marks k s → k < length t → Numbered C t x marks (suc k) (numberRow (2 + C) k s)
+  numbered-row : (k : ℕ) (s : Numbering) → Numbered C t x k s → k < length t → Numbered C t x (suc k) (numberRow (2 + C) k s)
   numbered-row k s n h = elim (decLt k (2 + C)) [
     | yes p ↦ rw (lt-ltb k (2 + C) p) (as-leaf p (reaches t x k) refl)
     | no p ↦ rw (le-ltb k (2 + C) (omega arith), n .marked k (omega arith) h) (as-op (omega arith) (reaches t x k) refl)
   ]
     where
       low : k < length (s .new)
-      low = omega (arith, r .size, n .size)
+      low = omega (arith, n .size)
 
-      as-leaf : k < 2 + C → (b : Bool) → reaches t x k ≡ b → Numbered C t x marks (suc k) (numbering (s .next) (set (s .new) k k))
+      as-leaf : k < 2 + C → (b : Bool) → reaches t x k ≡ b → Numbered C t x (suc k) (numbering (s .next) (set (s .new) k k))
       as-leaf p true q =
           let e = carried-leaf w x k h p q in
           numbered-one k s _ k n h (ap (λ m. m .new) e) (n .next ∙ sym (ap (λ m. length (m .tab)) e)) (length-set (s .new) k k)
@@ -163,7 +163,7 @@ module _ {C : ℕ} {t : List Row} {x marks : List ℕ} (w : Canonical C t) (r : 
           (λ i z. getD-set-other (s .new) k i k 0 z) (λ z. cc) (λ a z. absurd (omega arith))
 
       as-op : 2 + C ≤ k → (b : Bool) → reaches t x k ≡ b
-          → Numbered C t x marks (suc k) (cond (not b) s (numbering (s .next + 1) (set (s .new) k (s .next))))
+          → Numbered C t x (suc k) (cond (not b) s (numbering (s .next + 1) (set (s .new) k (s .next))))
       as-op p true q =
           let e = carried-op w x k h p q in
           let size = ap (λ m. length (m .tab)) e ∙ length-append (carried C t x k .tab) _ in
@@ -175,14 +175,15 @@ module _ {C : ℕ} {t : List Row} {x marks : List ℕ} (w : Canonical C t) (r : 
           numbered-one k s s 0 n h (ap (λ m. m .new) e) (n .next ∙ sym (ap (λ m. length (m .tab)) e)) refl (λ i z. refl)
           (λ z. cc) (λ a z. eqb-true (getD (s .new) k 0) 0 (n .marked k (omega arith) h ∙ ap not q))
 
-  -- R36: the rows of a table with marks get the numbers of the rules.
-  pub numbered : (k : ℕ) → k ≤ length t → Numbered C t x marks k (numberRows (2 + C) k marks)
-  unfolding numberRows carry
-  numbered zero h = record {
-    size = refl;
-    next = sym (length-base C);
-    reached = λ i l. absurd (omega arith);
-    skipped = λ i g l. absurd (omega arith);
-    marked = λ i g l. r .exact i l;
-  }
-  numbered (suc k) h = numbered-row k (numberRows (2 + C) k marks) (numbered k (omega arith)) (omega arith)
+-- R36: the rows of a table with marks get the numbers of the rules.
+pub numbered : {C : ℕ} {t : List Row} {x marks : List ℕ} → Canonical C t → Reached t x marks → (k : ℕ) → k ≤ length t → Numbered C t x k (numberRows (2 + C) k marks)
+unfolding numberRows carry
+numbered {C} w r zero h = record {
+  size = r .size;
+  next = sym (length-base C);
+  reached = λ i l. absurd (omega arith);
+  skipped = λ i g l. absurd (omega arith);
+  marked = λ i g l. r .exact i l;
+}
+numbered {C} {marks = marks} w r (suc k) h =
+    numbered-row w k (numberRows (2 + C) k marks) (numbered w r k (omega arith)) (omega arith)

@@ -92,7 +92,6 @@ module _ {out₀ : List ℕ} {at : ℕ} {xs : List ℕ} where
     is = q ∙ rw (more, ← e, w .is, ← flatMap-one (bytesOf 2) n) (put-more (bytesOf 2) 2 (length-bytes 2) out₀ at (take i xs) (n ∷ []) (at + 2 * i) place);
     size = ap length q ∙ length-put out (at + 2 * i) (bytesOf 2 n) ∙ w .size;
   }
-
     where
       place : at + 2 * i ≡ at + 2 * length (take i xs)
       place = omega (arith, length-take-le i xs (omega arith))

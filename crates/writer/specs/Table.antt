@@ -2,41 +2,32 @@
 use Prim.Native.Nat.{ℕ, zero, suc, _+_, _*_, _-_, _≤_, _<_}
 use mathlib.Core.Path.{_≡_, refl, sym, ap, ap₂, _∙_}
 use mathlib.Core.Bool.{Bool, true, false}
-use mathlib.Core.List.{List, [], _∷_, _++_, map, flatMap, append-nil}
+use mathlib.Core.List.{List, [], _∷_, _++_, flatMap, append-nil}
 use native.Mathlib.Omega.{arith}
-use native.Mathlib.Nat.{add-zero, add-suc}
 use native.Mathlib.Decide.{decLt}
-use lib.ListN.{length, getD, drop, length-append, length-drop, length-map, drop-of-length-le}
+use lib.ListN.{length, getD, drop, length-drop, length-map, drop-of-length-le}
 use lib.Seq.{drop-append-le}
-use lib.Dec.{ltb}
-use borrow.Author.Tests.{lt-ltb, le-ltb, eq-eqb}
-use Rattle.rules.specs.Verdict.{granted}
-use Rattle.rules.specs.Lists.{bytesOf, from, elem}
+use borrow.Author.Tests.{eq-eqb}
+use Rattle.rules.specs.Lists.{bytesOf}
 use Rattle.rules.specs.Edition.{old}
-use Rattle.rules.specs.Shape.{Shape, cells, checkShape, writeHeader}
-use Rattle.rules.specs.Rows.{Row, leaf, inv, bin, base, rowAt}
+use Rattle.rules.specs.Shape.{Shape, cells, writeHeader}
+use Rattle.rules.specs.Rows.{Row, leaf, inv, bin, rowAt}
 use Rattle.rules.specs.Sets.{unchanging, reaches, carryRow, carry, append, squeeze}
-use Rattle.rules.specs.SetFile.{TransferSet, leaves, rowBytes, writeSet}
-use Rattle.rules.specs.Operations.{setOf, unchangingSet, writeInto, writeUnchanging}
+use Rattle.rules.specs.SetFile.{TransferSet, rowBytes, writeSet}
+use Rattle.rules.specs.Operations.{setOf, writeInto}
 use Rattle.laws.specs.Lists.{map-ext, elem-at}
-use Rattle.laws.specs.Bytes.{length-bytes, length-table}
-use Rattle.laws.specs.Shape.{shape-limits, length-header}
 use Rattle.laws.specs.Canonical.{Operands, Below, Canonical}
 use Rattle.laws.specs.Rule.{below-more, canonical-below}
 use Rattle.laws.specs.Rows.{length-base}
 use Rattle.laws.specs.Grow.{ext-length}
 use Rattle.laws.specs.Reach.{needs-keeps, reaches-operands}
-use Rattle.laws.specs.After.{Stands, over, snoc-old}
-use Rattle.laws.specs.Squeeze.{ren, Packed, packed, unchanging-stands}
-use Rattle.laws.specs.Fits.{length-row}
-use Rattle.base.specs.Answers.{refusedBy}
-use Rattle.base.specs.declared.refusal.Refusal.{Refusal}
+use Rattle.laws.specs.After.{over, snoc-old}
+use Rattle.laws.specs.Squeeze.{ren, Packed, packed}
 use Rattle.base.specs.declared.refusal.Refusal.the-variants.{NoRoom}
-use Rattle.rows.specs.Entries.{rowOfEntry, tableIn}
-use Rattle.writer.specs.declared.Written.{Written}
+use Rattle.rows.specs.Entries.{tableIn}
 use Rattle.writer.specs.declared.Written.the-variants.{Length, Refused}
 use Rattle.writer.specs.Contracts.{Writes, Tabled}
-use Rattle.writer.specs.Put.{putAt, put-put, put-whole, newHeads}
+use Rattle.writer.specs.Put.{putAt, newHeads}
 use Rattle.writer.specs.Kept.{kept, keptAt, kept-one, AllFit}
 use Rattle.writer.specs.Marks.{Reached, table-length, table-row}
 use Rattle.writer.specs.Write.{set-length, set-put, writes-short, writes-whole}
@@ -68,8 +59,8 @@ ren-same P m n k e (leaf i) b p = refl
 ren-same P m n k e (inv a) b p = ap inv (e a b p)
 ren-same P m n k e (bin o a c) b p = ap₂ {C = Row} (bin o) (e a (b .0) (p .0)) (e c (b .1) (p .1))
 
-module _ (rows : List ℕ) (used : ℕ) (held : used ≤ length rows) {C : ℕ} {x marks : List ℕ} {s : Numbering}
-    (w : Canonical C (tableIn rows used)) (N : Numbered C (tableIn rows used) x marks used s) where
+module _ (rows : List ℕ) (used : ℕ) (held : used ≤ length rows) {C : ℕ} {x : List ℕ} {s : Numbering}
+    (w : Canonical C (tableIn rows used)) (N : Numbered C (tableIn rows used) x used s) where
   size : length (tableIn rows used) ≡ used
   size = table-length rows used held
 
@@ -127,18 +118,19 @@ module _ (rows : List ℕ) (used : ℕ) (held : used ≤ length rows) {C : ℕ} 
   pub next-small : 2 + C ≤ used → s .next ≤ used
   next-small h = omega (arith, N .next, pack used (omega arith) .few)
 
--- R53: its rows can be numbered.
-pub table-ready : {sh : Shape} {x rows : List ℕ} {used room : ℕ} → Tabled sh x rows used room → {C : ℕ} → C ≡ cells sh → (n : ℕ) → n ≡ room
-    → (2 + C ≤ used) × (used ≤ n) × (used < 65536)
-table-ready {rows = rows} {used = used} T c n e =
-    (omega (arith, T .stands .canonical .long, table-length rows used (T .held)), omega (arith, T .room), omega (arith, T .small))
+-- R53: the rows of a table can be numbered; and once they have been marked and numbered, they have the numbers of the rules.
+module _ {sh : Shape} {x rows : List ℕ} {used room : ℕ} (T : Tabled sh x rows used room) {C : ℕ} (c : C ≡ cells sh) where
+  pub table-ready : (n : ℕ) → n ≡ room → (2 + C ≤ used) × (used ≤ n) × (used < 65536)
+  table-ready n e =
+      (omega (arith, T .stands .canonical .long, table-length rows used (T .held)), omega (arith, T .room), omega (arith, T .small))
 
--- R36, R59: writing the set, once its rows have been marked and numbered.
-module _ {sh : Shape} {x rows : List ℕ} {used room : ℕ} (T : Tabled sh x rows used room) {C : ℕ} (c : C ≡ cells sh)
-    {marks new : List ℕ} {n : ℕ} (r : Reached (tableIn rows used) x marks) (q : numbering n new ≡ numberRows (2 + C) used marks) where
-  numbers : Numbered (cells sh) (tableIn rows used) x marks used (numbering n new)
-  numbers = rw (q, c) (numbered (T .stands .canonical) r used (omega (arith, table-length rows used (T .held))))
+  pub table-numbered : {marks : List ℕ} {s : Numbering} → Reached (tableIn rows used) x marks → s ≡ numberRows (2 + C) used marks
+      → Numbered (cells sh) (tableIn rows used) x used s
+  table-numbered r q = rw (q, c) (numbered (T .stands .canonical) r used (omega (arith, table-length rows used (T .held))))
 
+-- R36, R59: writing the set, once its rows have been numbered.
+module _ {sh : Shape} {x rows : List ℕ} {used room : ℕ} (T : Tabled sh x rows used room) {C : ℕ} (c : C ≡ cells sh) {n : ℕ} {new : List ℕ}
+    (numbers : Numbered (cells sh) (tableIn rows used) x used (numbering n new)) where
   long : 2 + cells sh ≤ used
   long = omega (arith, T .stands .canonical .long, table-length rows used (T .held))
 
@@ -147,7 +139,7 @@ module _ {sh : Shape} {x rows : List ℕ} {used room : ℕ} (T : Tabled sh x row
       (omega (arith, next-is rows used (T .held) (T .stands .canonical) numbers), next-small rows used (T .held) (T .stands .canonical) numbers long)
 
   fits : used ≤ length new
-  fits = omega (arith, numbers .size, r .size, table-length rows used (T .held))
+  fits = omega (arith, numbers .size, table-length rows used (T .held))
 
   pub table-heads : (k : ℕ) → getD x k 0 < length new
   table-heads k = omega (arith, T .stands .low k, fits, table-length rows used (T .held))

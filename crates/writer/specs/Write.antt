@@ -1,45 +1,30 @@
 -- Writing a set whole: the bytes of the rules, or a refusal of a short output; and the set that changes nothing.
-use Prim.Native.Nat.{ℕ, zero, suc, _+_, _*_, _-_, _≤_, _<_}
-use mathlib.Core.Path.{_≡_, refl, sym, ap, ap₂, _∙_}
-use mathlib.Core.Bool.{Bool, true, false}
-use mathlib.Core.List.{List, [], _∷_, _++_, map, flatMap, append-nil}
+use Prim.Native.Nat.{ℕ, _+_, _*_, _-_, _≤_, _<_}
+use mathlib.Core.Path.{_≡_, refl, ap, _∙_}
+use mathlib.Core.List.{List, [], _++_, flatMap}
 use native.Mathlib.Omega.{arith}
-use native.Mathlib.Nat.{add-zero, add-suc}
-use native.Mathlib.Decide.{decLt}
-use lib.ListN.{length, getD, drop, length-append, length-drop, length-map, drop-of-length-le}
-use lib.Seq.{drop-append-le}
-use lib.Dec.{ltb}
-use borrow.Author.Tests.{lt-ltb, le-ltb, eq-eqb}
+use lib.ListN.{length, drop, length-append, drop-of-length-le}
+use borrow.Author.Tests.{lt-ltb, le-ltb}
 use Rattle.rules.specs.Verdict.{granted}
-use Rattle.rules.specs.Lists.{bytesOf, from, elem}
+use Rattle.rules.specs.Lists.{bytesOf}
 use Rattle.rules.specs.Edition.{old}
 use Rattle.rules.specs.Shape.{Shape, cells, checkShape, writeHeader}
-use Rattle.rules.specs.Rows.{Row, leaf, inv, bin, base, rowAt}
-use Rattle.rules.specs.Sets.{unchanging, reaches, carryRow, carry, append, squeeze}
+use Rattle.rules.specs.Rows.{Row, base}
+use Rattle.rules.specs.Sets.{unchanging}
 use Rattle.rules.specs.SetFile.{TransferSet, leaves, rowBytes, writeSet}
-use Rattle.rules.specs.Operations.{setOf, unchangingSet, writeInto, writeUnchanging}
-use Rattle.laws.specs.Lists.{map-ext, elem-at}
+use Rattle.rules.specs.Operations.{unchangingSet, writeInto, writeUnchanging}
 use Rattle.laws.specs.Bytes.{length-bytes, length-table}
 use Rattle.laws.specs.Shape.{shape-limits, length-header}
-use Rattle.laws.specs.Canonical.{Operands, Below, Canonical}
-use Rattle.laws.specs.Rule.{below-more, canonical-below}
 use Rattle.laws.specs.Rows.{length-base}
-use Rattle.laws.specs.Grow.{ext-length}
-use Rattle.laws.specs.Reach.{needs-keeps, reaches-operands}
-use Rattle.laws.specs.After.{Stands, over, snoc-old}
-use Rattle.laws.specs.Squeeze.{ren, Packed, packed, unchanging-stands}
+use Rattle.laws.specs.Squeeze.{unchanging-stands}
 use Rattle.laws.specs.Fits.{length-row}
 use Rattle.base.specs.Answers.{refusedBy}
 use Rattle.base.specs.declared.refusal.Refusal.{Refusal}
 use Rattle.base.specs.declared.refusal.Refusal.the-variants.{NoRoom}
-use Rattle.rows.specs.Entries.{rowOfEntry, tableIn}
 use Rattle.writer.specs.declared.Written.{Written}
 use Rattle.writer.specs.declared.Written.the-variants.{Length, Refused}
-use Rattle.writer.specs.Contracts.{Writes, Tabled}
-use Rattle.writer.specs.Put.{putAt, put-put, put-whole, newHeads}
-use Rattle.writer.specs.Kept.{kept, keptAt, kept-one, AllFit}
-use Rattle.writer.specs.Marks.{Reached, table-length, table-row}
-use Rattle.writer.specs.Numbers.{Numbering, numbering, numberRows, carried, Numbered, carried-op, carried-none, numbered}
+use Rattle.writer.specs.Contracts.{Writes}
+use Rattle.writer.specs.Put.{putAt, put-put, put-whole}
 
 -- ---- a set and its bytes
 
@@ -126,7 +111,7 @@ module _ (sh : Shape) (out : List ℕ) where
   shape-granted r next e w = rw (← e) w
 
 -- The limits that writing needs.
-pub shape-small : (sh : Shape) → checkShape old sh ≡ granted tt → (sh .depth < 256) × (cells sh < 1000)
+pub shape-small : (sh : Shape) → checkShape old sh ≡ granted tt → (sh .depth < 256) × (cells sh < 65534)
 shape-small sh e =
     let l = shape-limits old sh e in
     (omega (arith, l .shallow), omega (arith, l .shallow, l .most))

@@ -2,14 +2,14 @@
 pub mod number;
 pub mod put;
 pub mod reach;
-use base::refusal::Refusal;
-use base::shape::Shape;
-use crate::number::number_rows;
+
+use crate::number::number_reached;
 use crate::put::put_header;
 use crate::put::put_heads;
 use crate::put::put_own_heads;
 use crate::put::put_rows;
-use crate::reach::mark_reached;
+use base::refusal::Refusal;
+use base::shape::Shape;
 use program::Checked;
 use program::header::check_shape;
 ghost use mathlib.Core.Path.{_≡_};
@@ -56,13 +56,19 @@ pub fn write_unchanging(shape: Shape, out: &mut [u8]) -> Written
 }
 
 // R36, R41, R59: writes the set that heads over a table are: the rows that they reach, renumbered in order. A short output is untouched.
-pub fn write_table(shape: Shape, heads: &[u16], rows: &[u64], used: usize, numbers: &mut [u16], out: &mut [u8]) -> Written
+pub fn write_table(
+    shape: Shape,
+    heads: &[u16],
+    rows: &[u64],
+    used: usize,
+    numbers: &mut [u16],
+    out: &mut [u8],
+) -> Written
     requires { ⌜ Tabled (shapeOf shape) (now heads) (now rows) used (length (now numbers)) ⌝ }
     ensures { λ r. ⌜ Writes (writeInto old used (length (now (out .entry))) (setOf (shapeOf shape) (over (tableIn (now (rows .entry)) used) (now (heads .entry))))) r (now (out .entry)) (now (out .exit)) ⌝ }
 {
     let cells = shape.cells();
-    mark_reached(shape, heads, rows, used, numbers);
-    let next = number_rows(numbers, 2 + cells, used);
+    let next = number_reached(shape, heads, rows, used, numbers);
     let count = next - (2 + cells);
     let length = 7 + 2 * cells + 5 * count;
     if out.len() < length {

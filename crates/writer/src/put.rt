@@ -42,7 +42,7 @@ pub fn put_header(out: &mut [u8], shape: Shape, count: u16)
 
 // R32, R41: the heads of the set that changes nothing.
 pub fn put_own_heads(out: &mut [u8], cells: usize)
-    requires { ⌜ (7 + 2 * cells ≤ length (now out)) × (cells < 1000) ⌝ }
+    requires { ⌜ (7 + 2 * cells ≤ length (now out)) × (cells < 65534) ⌝ }
     ensures { λ _. ⌜ now (out .exit) ≡ putAt (now (out .entry)) 7 (flatMap (bytesOf 2) (unchanging cells)) ⌝ }
 {
     let mut i = 0;
@@ -116,7 +116,14 @@ fn put_kept(out: &mut [u8], at: usize, rows: &[u64], k: usize, numbers: &[u16]) 
 }
 
 // R36, R41: the operation rows that are kept, in order.
-pub fn put_rows(out: &mut [u8], at: usize, rows: &[u64], leaves: usize, used: usize, numbers: &[u16])
+pub fn put_rows(
+    out: &mut [u8],
+    at: usize,
+    rows: &[u64],
+    leaves: usize,
+    used: usize,
+    numbers: &[u16],
+)
     requires { ⌜ AllFit (now rows) (now numbers) leaves used at (length (now out)) ⌝ }
     ensures { λ _. ⌜ now (out .exit) ≡ putAt (now (out .entry)) at (flatMap rowBytes (kept (now (rows .entry)) (now (numbers .entry)) leaves (used - leaves))) ⌝ }
 {

@@ -4,11 +4,6 @@ use native.Mathlib.Omega.{arith}
 use borrow.Author.Needs.{needs}
 use Rattle.writer.proofs.put_unchanging.Statement.{statement}
 use Rattle.writer.proofs.put_unchanging.Tie as tie
-use Rattle.writer.proofs.put_unchanging.Reads as reads
-use Rattle.writer.proofs.put_unchanging.Lts as lts
-use Rattle.base.proofs.shape.Shape.cells.Reads as cells-reads
-use Rattle.writer.proofs.put.put_header.Reads as put-header-reads
-use Rattle.writer.proofs.put.put_own_heads.Reads as put-own-heads-reads
 
 cells-requires : tie.Need-cells-requires
 cells-requires c κs = search needs
@@ -29,16 +24,25 @@ returns : tie.Need-returns
 returns c = own-short _ _ (c .before .cells .ensures) _ (c .if1 .taken)
 
 put-header-requires : tie.Need-put-header-requires
-put-header-requires c κs = (omega arith, shape-small (shapeOf (c .before .before .before .before .args .shape)) (c .before .before .before .before .pre) .0)
+put-header-requires c κs =
+    let c4 = c .before .before .before .before in
+    (omega arith, shape-small (shapeOf (c4 .args .shape)) (c4 .pre) .0)
 
 put-own-heads-requires : tie.Need-put-own-heads-requires
-put-own-heads-requires c κs = (omega arith, omega (arith, shape-small (shapeOf (c .before .before .before .before .before .before .before .before .args .shape)) (c .before .before .before .before .before .before .before .before .pre) .1, c .before .before .before .before .before .before .cells .ensures))
+put-own-heads-requires c κs =
+    let c6 = c .before .before .before .before .before .before in
+    let c8 = c6 .before .before in
+    (omega arith, omega (arith, shape-small (shapeOf (c8 .args .shape)) (c8 .pre) .1, c6 .cells .ensures))
 
 same-length : tie.Need-same-length
 same-length c = search needs
 
 returns-2 : tie.Need-returns-2
-returns-2 c = own-whole _ _ (c .before .before .before .before .before .before .before .before .before .cells .ensures) _ (c .before .before .before .before .before .before .before .before .if1 .left) _ _ (c .before .before .before .before .before .before .put-header .ensures) (c .before .before .put-own-heads .ensures)
+returns-2 c =
+    let c6 = c .before .before .before .before .before .before in
+    let c8 = c6 .before .before in
+    let c9 = c8 .before in
+    own-whole _ _ (c9 .cells .ensures) _ (c8 .if1 .left) _ _ (c6 .put-header .ensures) (c .before .before .put-own-heads .ensures)
 
 pub put-unchanging-spec : {M : Type 1} → statement M
 put-unchanging-spec =

@@ -1,10 +1,7 @@
 use Rattle.writer.specs.Numbers.{number-leaf, number-none, number-next}
-use native.Mathlib.Omega.{arith}
 use borrow.Author.Needs.{needs}
 use Rattle.writer.proofs.number.number_row.Statement.{statement}
 use Rattle.writer.proofs.number.number_row.Tie as tie
-use Rattle.writer.proofs.number.number_row.Reads as reads
-use Rattle.writer.proofs.number.number_row.Lts as lts
 
 cast-numbers : tie.Need-cast-numbers
 cast-numbers c = search needs
@@ -46,7 +43,9 @@ same-length-2 : tie.Need-same-length-2
 same-length-2 c = search needs
 
 returns-3 : tie.Need-returns-3
-returns-3 c = number-next _ _ _ (c .before .before .before .args .numbers .now) (c .before .before .if1 .left) (c .if2 .left)
+returns-3 c =
+    let c3 = c .before .before .before in
+    number-next _ _ _ (c3 .args .numbers .now) (c .before .before .if1 .left) (c .if2 .left)
 
 pub number-row-spec : {M : Type 1} → statement M
 number-row-spec =

@@ -4,9 +4,6 @@ use native.Mathlib.Omega.{arith}
 use borrow.Author.Needs.{needs}
 use Rattle.writer.proofs.number.number_rows.Statement.{statement}
 use Rattle.writer.proofs.number.number_rows.Tie as tie
-use Rattle.writer.proofs.number.number_rows.Reads as reads
-use Rattle.writer.proofs.number.number_rows.Lts as lts
-use Rattle.writer.proofs.number.number_row.Reads as number-row-reads
 
 abbrev Inv-loop : tie.InvT-loop
 Inv-loop numbers₀ leaves used next₀ k₀ numbers next k = Counting leaves numbers₀ k (numbering next numbers) × (k ≤ used)
@@ -27,7 +24,9 @@ loop-less : tie.Need-loop-less Inv-loop μ-loop
 loop-less c = search needs
 
 loop-again : tie.Need-loop-again Inv-loop μ-loop
-loop-again c = (counting-more (c .before .before .before .before .before .loop .inv .0) (c .before .before .number-row .ensures), omega arith)
+loop-again c =
+    let c5 = c .before .before .before .before .before in
+    (counting-more (c5 .loop .inv .0) (c .before .before .number-row .ensures), omega arith)
 
 same-length : tie.Need-same-length Inv-loop μ-loop
 same-length c = search needs

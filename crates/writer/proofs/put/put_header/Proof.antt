@@ -5,9 +5,6 @@ use native.Mathlib.Omega.{arith}
 use borrow.Author.Needs.{needs}
 use Rattle.writer.proofs.put.put_header.Statement.{statement}
 use Rattle.writer.proofs.put.put_header.Tie as tie
-use Rattle.writer.proofs.put.put_header.Reads as reads
-use Rattle.writer.proofs.put.put_header.Lts as lts
-use Rattle.writer.proofs.put.put_word.Reads as put-word-reads
 
 slice-write-out : tie.Need-slice-write-out
 slice-write-out c = search needs

@@ -5,10 +5,6 @@ use native.Mathlib.Omega.{arith}
 use borrow.Author.Needs.{needs}
 use Rattle.writer.proofs.put.put_heads.Statement.{statement}
 use Rattle.writer.proofs.put.put_heads.Tie as tie
-use Rattle.writer.proofs.put.put_heads.Reads as reads
-use Rattle.writer.proofs.put.put_heads.Lts as lts
-use Rattle.writer.proofs.put.number_of.Reads as number-of-reads
-use Rattle.writer.proofs.put.put_word.Reads as put-word-reads
 
 abbrev Inv-loop : tie.InvT-loop
 Inv-loop out₀ heads numbers i₀ out i = Words out₀ 7 (newHeads numbers heads) out i
@@ -32,7 +28,9 @@ shared-slice-read-t14 : tie.Need-shared-slice-read-t14 Inv-loop μ-loop
 shared-slice-read-t14 c = search needs
 
 number-of-requires : tie.Need-number-of-requires Inv-loop μ-loop
-number-of-requires c κs = c .before .before .before .before .before .before .before .pre .1 _
+number-of-requires c κs =
+    let c7 = c .before .before .before .before .before .before .before in
+    c7 .pre .1 _
 
 put-word-requires : tie.Need-put-word-requires Inv-loop μ-loop
 put-word-requires c κs = search needs
@@ -45,16 +43,18 @@ loop-less c = search needs
 
 loop-again : tie.Need-loop-again Inv-loop μ-loop
 loop-again c =
-    let a = c .before .before .before .before .before .before .before .before .before .before .before .args in
-    head-more (a .numbers .now) (a .heads .now) (c .before .before .before .before .before .before .before .loop .inv) (omega arith) _ _ (c .before .before .before .number-of .ensures) (c .before .before .put-word .ensures)
+    let c3 = c .before .before .before in
+    let c7 = c3 .before .before .before .before in
+    let c11 = c7 .before .before .before .before in
+    let a = c11 .args in head-more (a .numbers .now) (a .heads .now) (c7 .loop .inv) (omega arith) _ _ (c3 .number-of .ensures) (c .before .before .put-word .ensures)
 
 same-length : tie.Need-same-length Inv-loop μ-loop
 same-length c = search needs
 
 returns : tie.Need-returns Inv-loop μ-loop
 returns c =
-    let a = c .before .before .before .before .before .args in
-    head-all (a .numbers .now) (a .heads .now) (c .before .loop .inv) (omega arith)
+    let c5 = c .before .before .before .before .before in
+    let a = c5 .args in head-all (a .numbers .now) (a .heads .now) (c .before .loop .inv) (omega arith)
 
 pub put-heads-spec : {M : Type 1} → statement M
 put-heads-spec =

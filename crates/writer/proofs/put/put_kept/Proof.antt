@@ -1,12 +1,7 @@
 use Rattle.writer.specs.Kept.{one-room, puts-none, puts-one}
-use native.Mathlib.Omega.{arith}
 use borrow.Author.Needs.{needs}
 use Rattle.writer.proofs.put.put_kept.Statement.{statement}
 use Rattle.writer.proofs.put.put_kept.Tie as tie
-use Rattle.writer.proofs.put.put_kept.Reads as reads
-use Rattle.writer.proofs.put.put_kept.Lts as lts
-use Rattle.rows.proofs.node.node_of.Reads as node-of-reads
-use Rattle.writer.proofs.put.put_row.Reads as put-row-reads
 
 mul-if1 : tie.Need-mul-if1
 mul-if1 c = search needs
@@ -28,8 +23,9 @@ node-of-requires c κs = search needs
 
 put-row-requires : tie.Need-put-row-requires
 put-row-requires c κs =
-    let p = c .before .before .before .before .before .before .before .before .pre in
-    (one-room p (c .before .before .before .if1 .left), rw (c .node-of .ensures) (p .low))
+    let c3 = c .before .before .before in
+    let c8 = c3 .before .before .before .before .before in
+    let p = c8 .pre in (one-room p (c3 .if1 .left), rw (c .node-of .ensures) (p .low))
 
 add-result : tie.Need-add-result
 add-result c = search needs
@@ -38,7 +34,10 @@ same-length : tie.Need-same-length
 same-length c = search needs
 
 returns-2 : tie.Need-returns-2
-returns-2 c = puts-one (c .before .before .before .before .before .before .if1 .left) _ (c .before .before .before .node-of .ensures) (c .before .before .put-row .ensures .is)
+returns-2 c =
+    let c3 = c .before .before .before in
+    let c6 = c3 .before .before .before in
+    puts-one (c6 .if1 .left) _ (c3 .node-of .ensures) (c .before .before .put-row .ensures .is)
 
 pub put-kept-spec : {M : Type 1} → statement M
 put-kept-spec =

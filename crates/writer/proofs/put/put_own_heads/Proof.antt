@@ -6,9 +6,6 @@ use native.Mathlib.Omega.{arith}
 use borrow.Author.Needs.{needs}
 use Rattle.writer.proofs.put.put_own_heads.Statement.{statement}
 use Rattle.writer.proofs.put.put_own_heads.Tie as tie
-use Rattle.writer.proofs.put.put_own_heads.Reads as reads
-use Rattle.writer.proofs.put.put_own_heads.Lts as lts
-use Rattle.writer.proofs.put.put_word.Reads as put-word-reads
 
 abbrev Inv-loop : tie.InvT-loop
 Inv-loop out₀ cells i₀ out i = Words out₀ 7 (unchanging cells) out i
@@ -41,7 +38,9 @@ loop-less : tie.Need-loop-less Inv-loop μ-loop
 loop-less c = search needs
 
 loop-again : tie.Need-loop-again Inv-loop μ-loop
-loop-again c = own-more (c .before .before .before .before .before .loop .inv) (omega arith) _ _ refl (c .before .before .put-word .ensures)
+loop-again c =
+    let c5 = c .before .before .before .before .before in
+    own-more (c5 .loop .inv) (omega arith) _ _ refl (c .before .before .put-word .ensures)
 
 same-length : tie.Need-same-length Inv-loop μ-loop
 same-length c = search needs

@@ -4,9 +4,6 @@ use native.Mathlib.Omega.{arith}
 use borrow.Author.Needs.{needs}
 use Rattle.writer.proofs.put.put_parts.Statement.{statement}
 use Rattle.writer.proofs.put.put_parts.Tie as tie
-use Rattle.writer.proofs.put.put_parts.Reads as reads
-use Rattle.writer.proofs.put.put_parts.Lts as lts
-use Rattle.writer.proofs.put.put_word.Reads as put-word-reads
 
 slice-write-out : tie.Need-slice-write-out
 slice-write-out c = search needs
@@ -21,10 +18,14 @@ add-put-word-2 : tie.Need-add-put-word-2
 add-put-word-2 c = search needs
 
 put-word-requires-2 : tie.Need-put-word-requires-2
-put-word-requires-2 c κs = omega (arith, simp length-set at (put-size _ _ _ (c .before .before .before .put-word .ensures)))
+put-word-requires-2 c κs =
+    let c3 = c .before .before .before in
+    omega (arith, simp length-set at (put-size _ _ _ (c3 .put-word .ensures)))
 
 end : tie.Need-returns
-end c = put-five _ _ _ _ _ (c .before .before .before .before .before .before .put-word .ensures) (c .before .before .put-word2 .ensures)
+end c =
+    let c6 = c .before .before .before .before .before .before in
+    put-five _ _ _ _ _ (c6 .put-word .ensures) (c .before .before .put-word2 .ensures)
 
 same-length : tie.Need-same-length
 same-length c = put-size _ _ _ (end c)

@@ -1,14 +1,9 @@
 use Rattle.writer.specs.Kept.{leaf-put, not-put, and-put, or-put}
 use mathlib.Core.Path.{_≡_}
-use Rattle.rows.specs.declared.node.Node.the-variants.{Leaf, Not, Two}
-use native.Mathlib.Omega.{arith}
+use Rattle.rows.specs.declared.node.Node.the-variants.{Not, Two}
 use borrow.Author.Needs.{needs}
 use Rattle.writer.proofs.put.put_row.Statement.{statement}
 use Rattle.writer.proofs.put.put_row.Tie as tie
-use Rattle.writer.proofs.put.put_row.Reads as reads
-use Rattle.writer.proofs.put.put_row.Lts as lts
-use Rattle.writer.proofs.put.number_of.Reads as number-of-reads
-use Rattle.writer.proofs.put.put_parts.Reads as put-parts-reads
 
 enum-known-node : tie.Need-enum-known-node
 enum-known-node c = search needs
@@ -21,9 +16,9 @@ enum-known-node-2 c = search needs
 
 number-of-requires : tie.Need-number-of-requires
 number-of-requires c κs =
-    let s = c .before .before .before .before .before .before in
-    let e : s .args .node ≡ Not (c .before .before .node2 .given .0 .0) = cc in
-    rw e at (s .pre .1)
+    let c6 = c .before .before .before .before .before .before in
+    let s = c6 in
+    let e : s .args .node ≡ Not (c .before .before .node2 .given .0 .0) = cc in rw e at (s .pre .1)
 
 put-parts-requires-2 : tie.Need-put-parts-requires-2
 put-parts-requires-2 c κs = search needs
@@ -33,17 +28,17 @@ enum-known-node-3 c = search needs
 
 number-of-requires-2 : tie.Need-number-of-requires-2
 number-of-requires-2 c κs =
-    let s = c .before .before .before .before .before in
+    let c5 = c .before .before .before .before .before in
+    let s = c5 in
     let n = c .before .node3 .given .0 in
-    let e : s .args .node ≡ Two (n .0) (n .1 .0) (n .1 .1 .0) = cc in
-    (rw e at (s .pre .1)) .0
+    let e : s .args .node ≡ Two (n .0) (n .1 .0) (n .1 .1 .0) = cc in (rw e at (s .pre .1)) .0
 
 number-of-requires-3 : tie.Need-number-of-requires-3
 number-of-requires-3 c κs =
-    let s = c .before .before .before .before .before .before in
+    let c6 = c .before .before .before .before .before .before in
+    let s = c6 in
     let n = c .before .before .node3 .given .0 in
-    let e : s .args .node ≡ Two (n .0) (n .1 .0) (n .1 .1 .0) = cc in
-    (rw e at (s .pre .1)) .1
+    let e : s .args .node ≡ Two (n .0) (n .1 .0) (n .1 .1 .0) = cc in (rw e at (s .pre .1)) .1
 
 put-parts-requires-3 : tie.Need-put-parts-requires-3
 put-parts-requires-3 c κs = search needs
@@ -55,25 +50,40 @@ same-length : tie.Need-same-length
 same-length c = search needs
 
 returns : tie.Need-returns
-returns c = leaf-put _ (c .before .before .before .before .before .node .given .1) (c .before .before .put-parts .ensures)
+returns c =
+    let c5 = c .before .before .before .before .before in
+    leaf-put _ (c5 .node .given .1) (c .before .before .put-parts .ensures)
 
 same-length-2 : tie.Need-same-length-2
 same-length-2 c = search needs
 
 returns-2 : tie.Need-returns-2
-returns-2 c = not-put _ _ (c .before .before .before .before .before .before .node2 .given .1) (c .before .before .before .number-of .ensures) (c .before .before .put-parts2 .ensures)
+returns-2 c =
+    let c3 = c .before .before .before in
+    let c6 = c3 .before .before .before in
+    not-put _ _ (c6 .node2 .given .1) (c3 .number-of .ensures) (c .before .before .put-parts2 .ensures)
 
 same-length-3 : tie.Need-same-length-3
 same-length-3 c = search needs
 
 returns-3 : tie.Need-returns-3
-returns-3 c = and-put _ _ _ _ _ (c .before .before .before .before .before .before .before .before .node3 .given .1) (c .before .before .before .before .if1 .taken) (c .before .before .before .before .before .before .number-of2 .ensures) (c .before .before .before .before .before .number-of3 .ensures) (c .before .before .put-parts3 .ensures)
+returns-3 c =
+    let c4 = c .before .before .before .before in
+    let c5 = c4 .before in
+    let c6 = c5 .before in
+    let c8 = c6 .before .before in
+    and-put _ _ _ _ _ (c8 .node3 .given .1) (c4 .if1 .taken) (c6 .number-of2 .ensures) (c5 .number-of3 .ensures) (c .before .before .put-parts3 .ensures)
 
 same-length-4 : tie.Need-same-length-4
 same-length-4 c = search needs
 
 returns-4 : tie.Need-returns-4
-returns-4 c = or-put _ _ _ _ _ (c .before .before .before .before .before .before .before .before .node3 .given .1) (c .before .before .before .before .if1 .left) (c .before .before .before .before .before .before .number-of2 .ensures) (c .before .before .before .before .before .number-of3 .ensures) (c .before .before .put-parts4 .ensures)
+returns-4 c =
+    let c4 = c .before .before .before .before in
+    let c5 = c4 .before in
+    let c6 = c5 .before in
+    let c8 = c6 .before .before in
+    or-put _ _ _ _ _ (c8 .node3 .given .1) (c4 .if1 .left) (c6 .number-of2 .ensures) (c5 .number-of3 .ensures) (c .before .before .put-parts4 .ensures)
 
 pub put-row-spec : {M : Type 1} → statement M
 put-row-spec =

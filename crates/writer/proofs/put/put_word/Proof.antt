@@ -4,8 +4,6 @@ use native.Mathlib.Omega.{arith}
 use borrow.Author.Needs.{needs}
 use Rattle.writer.proofs.put.put_word.Statement.{statement}
 use Rattle.writer.proofs.put.put_word.Tie as tie
-use Rattle.writer.proofs.put.put_word.Reads as reads
-use Rattle.writer.proofs.put.put_word.Lts as lts
 
 cast-out : tie.Need-cast-out
 cast-out c = search needs

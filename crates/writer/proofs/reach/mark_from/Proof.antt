@@ -1,12 +1,7 @@
 use Rattle.writer.specs.Marks.{from-none, from-marked}
-use native.Mathlib.Omega.{arith}
 use borrow.Author.Needs.{needs}
 use Rattle.writer.proofs.reach.mark_from.Statement.{statement}
 use Rattle.writer.proofs.reach.mark_from.Tie as tie
-use Rattle.writer.proofs.reach.mark_from.Reads as reads
-use Rattle.writer.proofs.reach.mark_from.Lts as lts
-use Rattle.rows.proofs.node.node_of.Reads as node-of-reads
-use Rattle.writer.proofs.reach.mark_operands.Reads as mark-operands-reads
 
 mul-if1 : tie.Need-mul-if1
 mul-if1 c = search needs
@@ -27,13 +22,18 @@ node-of-requires : tie.Need-node-of-requires
 node-of-requires c κs = search needs
 
 mark-operands-requires : tie.Need-mark-operands-requires
-mark-operands-requires c κs = rw (c .before .node-of .ensures) (c .before .before .before .before .before .before .before .pre .low)
+mark-operands-requires c κs =
+    let c7 = c .before .before .before .before .before .before .before in
+    rw (c .before .node-of .ensures) (c7 .pre .low)
 
 same-length : tie.Need-same-length
 same-length c = search needs
 
 returns-2 : tie.Need-returns-2
-returns-2 c = from-marked _ _ _ _ _ (c .before .before .before .before .before .before .if1 .left) (c .before .before .before .before .node-of .ensures) (c .before .before .mark-operands .ensures)
+returns-2 c =
+    let c4 = c .before .before .before .before in
+    let c6 = c4 .before .before in
+    from-marked _ _ _ _ _ (c6 .if1 .left) (c4 .node-of .ensures) (c .before .before .mark-operands .ensures)
 
 pub mark-from-spec : {M : Type 1} → statement M
 mark-from-spec =

@@ -4,9 +4,6 @@ use native.Mathlib.Omega.{arith}
 use borrow.Author.Needs.{needs}
 use Rattle.writer.proofs.reach.mark_heads.Statement.{statement}
 use Rattle.writer.proofs.reach.mark_heads.Tie as tie
-use Rattle.writer.proofs.reach.mark_heads.Reads as reads
-use Rattle.writer.proofs.reach.mark_heads.Lts as lts
-use Rattle.writer.proofs.reach.mark.Reads as mark-reads
 
 abbrev Inv-loop : tie.InvT-loop
 Inv-loop heads numbers₀ i₀ numbers i = Heading heads numbers₀ numbers i
@@ -27,13 +24,19 @@ shared-slice-read-t10 : tie.Need-shared-slice-read-t10 Inv-loop μ-loop
 shared-slice-read-t10 c = search needs
 
 mark-requires : tie.Need-mark-requires Inv-loop μ-loop
-mark-requires c κs = omega (arith, c .before .before .before .before .before .before .pre (c .before .before .before .loop .i - 1), c .before .before .before .loop .inv .size)
+mark-requires c κs =
+    let c3 = c .before .before .before in
+    let c6 = c3 .before .before .before in
+    omega (arith, c6 .pre (c3 .loop .i - 1), c3 .loop .inv .size)
 
 loop-less : tie.Need-loop-less Inv-loop μ-loop
 loop-less c = search needs
 
 loop-again : tie.Need-loop-again Inv-loop μ-loop
-loop-again c = heads-more (c .before .before .before .before .before .before .loop .inv) (c .before .before .before .before .before .loop-test .taken) (c .before .before .mark .ensures)
+loop-again c =
+    let c5 = c .before .before .before .before .before in
+    let c6 = c5 .before in
+    heads-more (c6 .loop .inv) (c5 .loop-test .taken) (c .before .before .mark .ensures)
 
 same-length : tie.Need-same-length Inv-loop μ-loop
 same-length c = search needs

@@ -7,12 +7,6 @@ use native.Mathlib.Omega.{arith}
 use borrow.Author.Needs.{needs}
 use Rattle.writer.proofs.reach.mark_reached.Statement.{statement}
 use Rattle.writer.proofs.reach.mark_reached.Tie as tie
-use Rattle.writer.proofs.reach.mark_reached.Reads as reads
-use Rattle.writer.proofs.reach.mark_reached.Lts as lts
-use Rattle.base.proofs.shape.Shape.cells.Reads as cells-reads
-use Rattle.base.proofs.work.clear_numbers.Reads as clear-numbers-reads
-use Rattle.writer.proofs.reach.mark_from.Reads as mark-from-reads
-use Rattle.writer.proofs.reach.mark_heads.Reads as mark-heads-reads
 
 abbrev Inv-loop : tie.InvT-loop
 Inv-loop heads rows used numbers₀ leaves k₀ numbers k = Marking (tableIn rows used) heads k numbers × (k ≤ used) × (length numbers ≡ length numbers₀)
@@ -24,7 +18,9 @@ clear-numbers-requires : tie.Need-clear-numbers-requires Inv-loop μ-loop
 clear-numbers-requires c κs = search needs
 
 mark-heads-requires : tie.Need-mark-heads-requires Inv-loop μ-loop
-mark-heads-requires c κs = heads-fit (c .before .before .before .before .before .before .before .before .pre) _ (omega arith)
+mark-heads-requires c κs =
+    let c8 = c .before .before .before .before .before .before .before .before in
+    heads-fit (c8 .pre) _ (omega arith)
 
 cells-requires : tie.Need-cells-requires Inv-loop μ-loop
 cells-requires c κs = search needs
@@ -33,33 +29,36 @@ add-leaves : tie.Need-add-leaves Inv-loop μ-loop
 add-leaves c = search needs
 
 loop-holds : tie.Need-loop-holds Inv-loop μ-loop
-loop-holds c = (
-  walk-heads (c .before .before .before .before .before .before .before .before .before .before .before .before .pre) (c .before .before .before .before .before .before .before .before .before .before .before .before .args .numbers .now) refl (c .before .before .before .before .before .before .before .clear-numbers .ensures) (c .before .before .before .mark-heads .ensures),
-  omega arith,
-  refl,
-)
+loop-holds c =
+    let c3 = c .before .before .before in
+    let c7 = c3 .before .before .before .before in
+    let c12 = c7 .before .before .before .before .before in
+    (walk-heads (c12 .pre) (c12 .args .numbers .now) refl (c7 .clear-numbers .ensures) (c3 .mark-heads .ensures), omega arith, refl)
 
 sub-k : tie.Need-sub-k Inv-loop μ-loop
 sub-k c = search needs
 
 mark-from-requires : tie.Need-mark-from-requires Inv-loop μ-loop
-mark-from-requires c κs = walk-fits (c .before .before .before .before .before .before .before .before .before .before .before .before .before .before .before .pre) (omega arith) (omega arith) (c .before .before .loop .inv .0)
+mark-from-requires c κs =
+    let c15 = c .before .before .before .before .before .before .before .before .before .before .before .before .before .before .before in
+    walk-fits (c15 .pre) (omega arith) (omega arith) (c .before .before .loop .inv .0)
 
 loop-less : tie.Need-loop-less Inv-loop μ-loop
 loop-less c = search needs
 
 loop-again : tie.Need-loop-again Inv-loop μ-loop
-loop-again c = (
-  walk-more (c .before .before .before .before .before .before .before .before .before .before .before .before .before .before .before .before .before .before .pre) (omega arith) (omega arith) (c .before .before .before .before .before .loop .inv .0) (c .before .before .mark-from .ensures),
-  omega arith,
-  omega arith,
-)
+loop-again c =
+    let c5 = c .before .before .before .before .before in
+    let c18 = c5 .before .before .before .before .before .before .before .before .before .before .before .before .before in
+    (walk-more (c18 .pre) (omega arith) (omega arith) (c5 .loop .inv .0) (c .before .before .mark-from .ensures), omega arith, omega arith)
 
 same-length : tie.Need-same-length Inv-loop μ-loop
 same-length c = search needs
 
 returns : tie.Need-returns Inv-loop μ-loop
-returns c = walk-done (c .before .before .before .before .before .before .before .before .before .before .before .before .before .before .pre) (omega arith) (c .before .loop .inv .0)
+returns c =
+    let c14 = c .before .before .before .before .before .before .before .before .before .before .before .before .before .before in
+    walk-done (c14 .pre) (omega arith) (c .before .loop .inv .0)
 
 pub mark-reached-spec : {M : Type 1} → statement M
 mark-reached-spec =
