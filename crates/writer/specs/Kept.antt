@@ -37,7 +37,8 @@ unfolding kept
 kept-longer rows numbers l j zero h = (let z : j ≡ 0 = omega arith in rw z (omega arith))
 kept-longer rows numbers l j (suc n) h = elim (decLt n j) [
   | yes p ↦ (let z : j ≡ suc n = omega arith in rw z (omega arith))
-  | no p ↦ omega (arith, kept-longer rows numbers l j n (omega arith), length-append (kept rows numbers l n) (keptAt rows numbers (l + n)))
+  | no p ↦ omega
+      (arith, kept-longer rows numbers l j n (omega arith), length-append (kept rows numbers l n) (keptAt rows numbers (l + n)))
 ]
 
 -- R36, R42: writing a row, its operands renumbered; a law for each form of it.
@@ -45,7 +46,8 @@ pub record PutsRow (numbers : List ℕ) (node : Node) (at : ℕ) (before after :
   pub is : after ≡ putAt before at (rowBytes (ren numbers (nodeRow node)))
 
 module _ {numbers : List ℕ} {node : Node} {at : ℕ} {out next : List ℕ} where
-  pub leaf-put : (i : K.Row) → node ≡ Leaf i → next ≡ putAt out at (0 ∷ (bytesOf 2 (i .0) ++ bytesOf 2 0)) → PutsRow numbers node at out next
+  pub leaf-put : (i : K.Row) → node ≡ Leaf i → next ≡ putAt out at (0 ∷ (bytesOf 2 (i .0) ++ bytesOf 2 0))
+      → PutsRow numbers node at out next
   leaf-put i e q = record { is = rw e q }
 
   pub not-put : (a : K.Row) (n : ℕ) → node ≡ Not a → n ≡ getD numbers (a .0) 0
@@ -153,7 +155,8 @@ module _ {rows numbers : List ℕ} {l at : ℕ} {out₀ : List ℕ} where
   rowing-more {to = to} {k = k} r p =
       let more = kept-next rows numbers l k (r .begun) in
       record {
-        is = p .is ∙ rw (more, r .is) (put-more rowBytes 5 length-row out₀ at (kept rows numbers l (k - l)) (keptAt rows numbers k) to (r .place));
+        is = p .is ∙ rw (more, r .is)
+            (put-more rowBytes 5 length-row out₀ at (kept rows numbers l (k - l)) (keptAt rows numbers k) to (r .place));
         place = rw more (omega (arith, p .moves, r .place, length-append (kept rows numbers l (k - l)) (keptAt rows numbers k)));
         begun = omega (arith, r .begun);
         size = ap length (p .is) ∙ length-put _ _ _ ∙ r .size;

@@ -28,7 +28,8 @@ use Rattle.writer.specs.Contracts.{Tabled}
 pub table-length : (rows : List ℕ) (used : ℕ) → used ≤ length rows → length (tableIn rows used) ≡ used
 table-length rows used h = length-map (take used rows) rowOfEntry ∙ length-take-le used rows h
 
-pub table-row : (rows : List ℕ) (used k : ℕ) → used ≤ length rows → k < used → rowAt (tableIn rows used) k ≡ rowOfEntry (getD rows k 0)
+pub table-row : (rows : List ℕ) (used k : ℕ) → used ≤ length rows → k < used
+    → rowAt (tableIn rows used) k ≡ rowOfEntry (getD rows k 0)
 table-row rows used k h g =
     getD-map rowOfEntry (take used rows) k 0 (leaf 0) (omega (arith, length-take-le used rows h))
     ∙ ap rowOfEntry (getD-take used rows k 0 g)
@@ -82,7 +83,8 @@ marked-heads [] h m = m
 marked-heads (a ∷ x) {s} h m =
     marked-one a (omega (arith, h 0, length-mark x s)) (marked-heads x (λ c. h (suc c)) m)
 
-marked-operands : {n : ℕ} (r : Row) {l s : List ℕ} → Below (length s) r → Marked n l s → Marked n (operands r ++ l) (markAll (operands r) s)
+marked-operands : {n : ℕ} (r : Row) {l s : List ℕ} → Below (length s) r → Marked n l s
+    → Marked n (operands r ++ l) (markAll (operands r) s)
 unfolding markAll
 marked-operands (leaf i) b m = m
 marked-operands (inv a) b m = marked-one a b m
@@ -170,7 +172,8 @@ marking-more t x k s b h m = record {
 needs-leaves : {C : ℕ} {t : List Row} → Canonical C t → (k : ℕ) (l : List ℕ) → k ≤ 2 + C → needs t k l ≡ l
 unfolding needs
 needs-leaves w zero l h = refl
-needs-leaves {C} {t} w (suc k) l h = rw (w .leaf-at k (omega arith)) (ap (needs t k) (go (elem k l)) ∙ needs-leaves w k l (omega arith))
+needs-leaves {C} {t} w (suc k) l h = rw (w .leaf-at k (omega arith))
+    (ap (needs t k) (go (elem k l)) ∙ needs-leaves w k l (omega arith))
   where
     go : (c : Bool) → cond c l l ≡ l
     go true = refl

@@ -27,12 +27,14 @@ pub record Numbering : Type 0 where
 abbrev pub numbering : ℕ → List ℕ → Numbering
 numbering n s = record { next = n; new = s }
 
--- R36: row k, where l rows are constants and cells.
-abbrev pub numberOp : ℕ → Numbering → Numbering
-numberOp k s = cond (eqb (getD (s .new) k 0) 0) s (numbering (s .next + 1) (set (s .new) k (s .next)))
+-- R36: row k: a leaf keeps its number, a row that is not marked its 0, and any other gets the next.
+abbrev pub numberBy : Bool → Bool → ℕ → Numbering → Numbering
+numberBy isLeaf unmarked k s = cond isLeaf (numbering (s .next) (set (s .new) k k))
+    (cond unmarked s (numbering (s .next + 1) (set (s .new) k (s .next))))
 
+-- R36: row k, where l rows are constants and cells.
 abbrev pub numberRow : ℕ → ℕ → Numbering → Numbering
-numberRow l k s = cond (ltb k l) (numbering (s .next) (set (s .new) k k)) (numberOp k s)
+numberRow l k s = numberBy (ltb k l) (eqb (getD (s .new) k 0) 0) k s
 
 -- R36: the first k rows.
 unfoldable pub numberRows : ℕ → ℕ → List ℕ → Numbering
@@ -68,14 +70,12 @@ module _ {l : ℕ} {d : List ℕ} where
     size = rw e (grow (ltb k l) (eqb (getD (s .new) k 0) 0));
   }
     where
-      go : (a : Bool) → ltb k l ≡ a → (b : Bool)
-          → cond a (numbering (s .next) (set (s .new) k k)) (cond b s (numbering (s .next + 1) (set (s .new) k (s .next)))) .next ≤ l + (k + 1 - l)
+      go : (a : Bool) → ltb k l ≡ a → (b : Bool) → numberBy a b k s .next ≤ l + (k + 1 - l)
       go true e b = omega (arith, c .small)
       go false e true = omega (arith, c .small)
       go false e false = omega (arith, c .small, ltb-false k l e)
 
-      grow : (a b : Bool)
-          → length (cond a (numbering (s .next) (set (s .new) k k)) (cond b s (numbering (s .next + 1) (set (s .new) k (s .next)))) .new) ≡ length d
+      grow : (a b : Bool) → length (numberBy a b k s .new) ≡ length d
       grow true b = length-set (s .new) k k ∙ c .size
       grow false true = c .size
       grow false false = length-set (s .new) k (s .next) ∙ c .size
@@ -91,7 +91,7 @@ module _ {l : ℕ} {d : List ℕ} where
 abbrev pub carried : ℕ → List Row → List ℕ → ℕ → Carried
 carried C t x k = carry append (base C) (unchanging C) t x k
 
--- After k rows: those that are reached have the numbers of the rules, operation rows that are not have 0, and those to come have marks.
+-- After k rows: those that are reached have the numbers of the rules, other operation rows have 0, and those to come have marks.
 pub record Numbered (C : ℕ) (t : List Row) (x : List ℕ) (k : ℕ) (s : Numbering) : Type 0 where
   pub size : length t ≤ length (s .new)
   pub next : s .next ≡ length (carried C t x k .tab)
@@ -104,7 +104,8 @@ module _ {C : ℕ} {t : List Row} (w : Canonical C t) (x : List ℕ) (k : ℕ) (
   pub carried-leaf : k < 2 + C → reaches t x k ≡ true
       → carried C t x (suc k) ≡ record { tab = carried C t x k .tab; new = carried C t x k .new ++ (k ∷ []) }
   unfolding carry
-  carried-leaf p q = ap (carryRow append (unchanging C) (carried C t x k) (rowAt t k)) q ∙ rw (w .leaf-at k p, unchanging-at C k p)
+  carried-leaf p q = ap (carryRow append (unchanging C) (carried C t x k) (rowAt t k)) q
+      ∙ rw (w .leaf-at k p, unchanging-at C k p)
 
   pub carried-op : 2 + C ≤ k → reaches t x k ≡ true → carried C t x (suc k) ≡ record {
     tab = carried C t x k .tab ++ (ren (carried C t x k .new) (rowAt t k) ∷ []);
@@ -130,7 +131,8 @@ module _ {C : ℕ} {t : List Row} {x : List ℕ} (w : Canonical C t) where
     size = omega (arith, size, n .size);
     next = next;
     reached = λ i l q. elim (decLt i k) [
-      | yes p ↦ other i (λ z. omega arith) ∙ n .reached i p q ∙ sym (ap (λ l. getD l i 0) e ∙ snoc-old (carried C t x k .new) a k long i p)
+      | yes p ↦ other i (λ z. omega arith) ∙ n .reached i p q
+          ∙ sym (ap (λ l. getD l i 0) e ∙ snoc-old (carried C t x k .new) a k long i p)
       | no p ↦ (let z : i ≡ k = omega arith in rw (z, e, snoc-last (carried C t x k .new) a k long) (here (rw z at q)))
     ];
     skipped = λ i g l q. elim (decLt i k) [
@@ -176,7 +178,8 @@ module _ {C : ℕ} {t : List Row} {x : List ℕ} (w : Canonical C t) where
           (λ z. cc) (λ a z. eqb-true (getD (s .new) k 0) 0 (n .marked k (omega arith) h ∙ ap not q))
 
 -- R36: the rows of a table with marks get the numbers of the rules.
-pub numbered : {C : ℕ} {t : List Row} {x marks : List ℕ} → Canonical C t → Reached t x marks → (k : ℕ) → k ≤ length t → Numbered C t x k (numberRows (2 + C) k marks)
+pub numbered : {C : ℕ} {t : List Row} {x marks : List ℕ} → Canonical C t → Reached t x marks → (k : ℕ) → k ≤ length t
+    → Numbered C t x k (numberRows (2 + C) k marks)
 unfolding numberRows carry
 numbered {C} w r zero h = record {
   size = r .size;

@@ -43,7 +43,8 @@ put-two out at n = rw add-one
 
 -- R7: five stores and a two-byte number make a header.
 pub put-head : (out : List ℕ) (sh : Shape) (n : ℕ)
-    → putAt (set (set (set (set (set out 0 2) 1 (sh .depth)) 2 (sh .inputs % 256)) 3 (sh .outputs % 256)) 4 (sh .memory % 256)) 5 (bytesOf 2 n)
+    → putAt (set (set (set (set (set out 0 2) 1 (sh .depth)) 2 (sh .inputs % 256)) 3 (sh .outputs % 256)) 4 (sh .memory % 256)) 5
+    (bytesOf 2 n)
     ≡ putAt out 0 (writeHeader old 2 sh n)
 unfolding putAt bytesOf writeHeader
 put-head out sh n = refl
@@ -69,7 +70,8 @@ unfolding flatMap
 flatMap-one g x = append-nil (g x)
 
 -- A table grows by what is written behind it.
-pub put-more : {A : Type 0} (g : A → List ℕ) (w : ℕ) → ((x : A) → length (g x) ≡ w) → (out : List ℕ) (at : ℕ) (xs ys : List A) (p : ℕ)
+pub put-more : {A : Type 0} (g : A → List ℕ) (w : ℕ) → ((x : A) → length (g x) ≡ w)
+    → (out : List ℕ) (at : ℕ) (xs ys : List A) (p : ℕ)
     → p ≡ at + w * length xs
     → putAt (putAt out at (flatMap g xs)) p (flatMap g ys) ≡ putAt out at (flatMap g (xs ++ ys))
 put-more g w same out at xs ys p e =
@@ -89,7 +91,8 @@ module _ {out₀ : List ℕ} {at : ℕ} {xs : List ℕ} where
   pub words-more : {out : List ℕ} {i : ℕ} → Words out₀ at xs out i → i < length xs → (next : List ℕ) (n : ℕ) → n ≡ getD xs i 0
       → next ≡ putAt out (at + 2 * i) (bytesOf 2 n) → Words out₀ at xs next (i + 1)
   words-more {out} {i} w h next n e q = record {
-    is = q ∙ rw (more, ← e, w .is, ← flatMap-one (bytesOf 2) n) (put-more (bytesOf 2) 2 (length-bytes 2) out₀ at (take i xs) (n ∷ []) (at + 2 * i) place);
+    is = q ∙ rw (more, ← e, w .is, ← flatMap-one (bytesOf 2) n)
+        (put-more (bytesOf 2) 2 (length-bytes 2) out₀ at (take i xs) (n ∷ []) (at + 2 * i) place);
     size = ap length q ∙ length-put out (at + 2 * i) (bytesOf 2 n) ∙ w .size;
   }
     where

@@ -48,12 +48,14 @@ new-stays {C} {t} w x i k (suc n) h p l = elim (decLt n k) [
     same : n < k → suc n ≡ k
     same z = omega arith
 
-    snoc : (b : Bool) → (a : ℕ) × (carryRow append (unchanging C) (carried C t x n) (rowAt t n) b .new ≡ carried C t x n .new ++ (a ∷ []))
+    snoc : (b : Bool)
+        → (a : ℕ) × (carryRow append (unchanging C) (carried C t x n) (rowAt t n) b .new ≡ carried C t x n .new ++ (a ∷ []))
     snoc true = (_, refl)
     snoc false = (0, refl)
 
 -- Rows renumbered by lists that agree on their operands are the same.
-ren-same : (P : ℕ → Type 0) (m n : List ℕ) (k : ℕ) → ((a : ℕ) → a < k → P a → getD m a 0 ≡ getD n a 0) → (r : Row) → Below k r → Operands P r
+ren-same : (P : ℕ → Type 0) (m n : List ℕ) (k : ℕ) → ((a : ℕ) → a < k → P a → getD m a 0 ≡ getD n a 0)
+    → (r : Row) → Below k r → Operands P r
     → ren m r ≡ ren n r
 ren-same P m n k e (leaf i) b p = refl
 ren-same P m n k e (inv a) b p = ap inv (e a b p)
@@ -84,7 +86,8 @@ module _ (rows : List ℕ) (used : ℕ) (held : used ≤ length rows) {C : ℕ} 
       let row = table-row rows used k held l in
       let below = canonical-below w k (omega (arith, size)) in
       let closed = reaches-operands t w x k (rowAt t k) (omega (arith, size)) refl q in
-      let same : ren (m .new) (rowAt t k) ≡ ren (s .new) (rowAt t k) = ren-same (λ a. reaches t x a ≡ true) (m .new) (s .new) k (λ a p r. sym (N .reached a (omega arith) r ∙ new-stays w x a k used p (omega arith) (omega (arith, size)))) (rowAt t k) below closed in
+      let stays : (a : ℕ) → a < k → reaches t x a ≡ true → getD (m .new) a 0 ≡ getD (s .new) a 0 = λ a p r. sym (N .reached a (omega arith) r ∙ new-stays w x a k used p (omega arith) (omega (arith, size))) in
+      let same = ren-same (λ a. reaches t x a ≡ true) (m .new) (s .new) k stays (rowAt t k) below closed in
       ap (λ m. drop (2 + C) (m .tab)) e ∙ drop-append-le (2 + C) (m .tab) _ (tall k (omega arith))
       ∙ rw (kept-one rows (s .new) k some, ← row, same)
   kept-row k h l false q =
@@ -92,16 +95,19 @@ module _ (rows : List ℕ) (used : ℕ) (held : used ≤ length rows) {C : ℕ} 
       let z : keptAt rows (s .new) k ≡ [] = rw (eq-eqb (getD (s .new) k 0) 0 (N .skipped k h l q)) in
       ap (λ m. drop (2 + C) (m .tab)) (carried-none w x k (omega (arith, size)) q) ∙ sym (rw (z, append-nil))
 
-  kept-rows : (j : ℕ) → 2 + C + j ≤ used → drop (2 + C) (carried C (tableIn rows used) x (2 + C + j) .tab) ≡ kept rows (s .new) (2 + C) j
+  kept-rows : (j : ℕ) → 2 + C + j ≤ used
+      → drop (2 + C) (carried C (tableIn rows used) x (2 + C + j) .tab) ≡ kept rows (s .new) (2 + C) j
   unfolding kept
-  kept-rows zero h = drop-of-length-le (carried C (tableIn rows used) x (2 + C + 0) .tab) {i = 2 + C} (omega (arith, pack (2 + C + 0) h .few))
+  kept-rows zero h = drop-of-length-le (carried C (tableIn rows used) x (2 + C + 0) .tab) {i = 2 + C}
+      (omega (arith, pack (2 + C + 0) h .few))
   kept-rows (suc j) h =
       let e : 2 + C + suc j ≡ suc (2 + C + j) = omega arith in
       ap (λ n. drop (2 + C) (carried C (tableIn rows used) x n .tab)) e
       ∙ kept-row (2 + C + j) (omega arith) (omega arith) (reaches (tableIn rows used) x (2 + C + j)) refl
       ∙ ap (λ l. l ++ keptAt rows (s .new) (2 + C + j)) (kept-rows j (omega arith))
 
-  pub kept-all : 2 + C ≤ used → drop (2 + C) (carried C (tableIn rows used) x used .tab) ≡ kept rows (s .new) (2 + C) (used - (2 + C))
+  pub kept-all : 2 + C ≤ used
+      → drop (2 + C) (carried C (tableIn rows used) x used .tab) ≡ kept rows (s .new) (2 + C) (used - (2 + C))
   kept-all h =
       let e : used ≡ 2 + C + (used - (2 + C)) = omega arith in
       ap (λ n. drop (2 + C) (carried C (tableIn rows used) x n .tab)) e ∙ kept-rows (used - (2 + C)) (omega arith)

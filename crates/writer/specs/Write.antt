@@ -66,7 +66,8 @@ module _ (z : TransferSet) (h : length (z .heads) ≡ cells (z .shape)) where
 
 -- R59: a short output is refused and left as it is; else the bytes are at its beginning.
 module _ (held : ℕ) (out : List ℕ) (z : TransferSet) where
-  pub writes-short : length out < length (writeSet old z) → Writes (writeInto old held (length out) z) (Refused (NoRoom held)) out out
+  pub writes-short : length out < length (writeSet old z)
+      → Writes (writeInto old held (length out) z) (Refused (NoRoom held)) out out
   unfolding writeInto
   writes-short h = rw (lt-ltb (length out) (length (writeSet old z)) h) (record { answer = refl; output = refl })
 
@@ -87,7 +88,8 @@ own-length : (sh : Shape) → length (writeSet old (unchangingSet sh)) ≡ 7 + 2
 own-length sh = omega (arith, set-length (unchangingSet sh) (unchanging-stands (cells sh) .count), ap length (own-rows sh))
 
 module _ (sh : Shape) (C : ℕ) (c : C ≡ cells sh) (out : List ℕ) where
-  pub own-short : length out < 7 + 2 * C → Writes (writeInto old (leaves sh) (length out) (unchangingSet sh)) (Refused (NoRoom (2 + C))) out out
+  pub own-short : length out < 7 + 2 * C
+      → Writes (writeInto old (leaves sh) (length out) (unchangingSet sh)) (Refused (NoRoom (2 + C))) out out
   own-short h = rw c (writes-short (leaves sh) out (unchangingSet sh) (omega (arith, own-length sh)))
 
   pub own-whole : 7 + 2 * C ≤ length out → (a b : List ℕ) → a ≡ putAt out 0 (writeHeader old 2 sh 0)
@@ -95,12 +97,14 @@ module _ (sh : Shape) (C : ℕ) (c : C ≡ cells sh) (out : List ℕ) where
       → Writes (writeInto old (leaves sh) (length out) (unchangingSet sh)) (Length (7 + 2 * C)) out b
   unfolding putAt flatMap
   own-whole h a b e f =
-      let put = set-put (unchangingSet sh) (unchanging-stands (cells sh) .count) out a b b (rw (own-rows sh) e) (rw (← c) f) (rw (own-rows sh)) in
+      let put = set-put (unchangingSet sh) (unchanging-stands (cells sh) .count) out a b b
+      (rw (own-rows sh) e) (rw (← c) f) (rw (own-rows sh)) in
       writes-whole (leaves sh) out (unchangingSet sh) (7 + 2 * C) b (omega (arith, own-length sh)) h put
 
 -- R58: the shape is judged first.
 module _ (sh : Shape) (out : List ℕ) where
-  pub shape-refused : (x : Refusal) → refusedBy x ≡ checkShape old sh → Writes (writeUnchanging old sh (length out)) (Refused x) out out
+  pub shape-refused : (x : Refusal) → refusedBy x ≡ checkShape old sh
+      → Writes (writeUnchanging old sh (length out)) (Refused x) out out
   unfolding writeUnchanging
   shape-refused x e = rw (← e) (record { answer = refl; output = refl })
 

@@ -68,8 +68,10 @@ put-heads-requires : tie.Need-put-heads-requires
 put-heads-requires c κs =
     let c9 = c .before .before .before .before .before .before .before .before .before in
     let c11 = c9 .before .before in
-    let c16 = c11 .before .before .before .before .before in
-    (omega (arith, c16 .pre .stands .count, c11 .cells .ensures), table-heads (c16 .pre) (c11 .cells .ensures) (c9 .number-reached .ensures))
+    let c16 = c11 .before .before .before .before .before in (
+      omega (arith, c16 .pre .stands .count, c11 .cells .ensures),
+      table-heads (c16 .pre) (c11 .cells .ensures) (c9 .number-reached .ensures),
+    )
 
 mul-put-rows : tie.Need-mul-put-rows
 mul-put-rows c = search needs
@@ -105,7 +107,8 @@ returns-2 c =
     let c17 = c14 .before .before .before in
     let c19 = c17 .before .before in
     let c24 = c19 .before .before .before .before .before in
-    table-whole (c24 .pre) (c19 .cells .ensures) (c17 .number-reached .ensures) _ (c14 .if1 .left) (c12 .put-header .ensures) (c7 .put-heads .ensures) (c .before .before .put-rows .ensures)
+    table-whole (c24 .pre) (c19 .cells .ensures) (c17 .number-reached .ensures) _ (c14 .if1 .left)
+    (c12 .put-header .ensures) (c7 .put-heads .ensures) (c .before .before .put-rows .ensures)
 
 pub write-table-spec : {M : Type 1} → statement M
 write-table-spec =

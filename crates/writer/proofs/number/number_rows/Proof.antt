@@ -1,3 +1,4 @@
+-- `writer::number::number_rows`: each turn numbers one row.
 use Prim.Native.Nat.{_-_, _≤_}
 use Rattle.writer.specs.Numbers.{numbering, Counting, counting-none, counting-more, counting-all}
 use native.Mathlib.Omega.{arith}

@@ -1,3 +1,4 @@
+-- `writer::put::put_heads`: each turn writes one head.
 use lib.ListN.{length}
 use Prim.Native.Nat.{_-_}
 use Rattle.writer.specs.Put.{Words, words-none, newHeads, head-more, head-all}
@@ -46,7 +47,9 @@ loop-again c =
     let c3 = c .before .before .before in
     let c7 = c3 .before .before .before .before in
     let c11 = c7 .before .before .before .before in
-    let a = c11 .args in head-more (a .numbers .now) (a .heads .now) (c7 .loop .inv) (omega arith) _ _ (c3 .number-of .ensures) (c .before .before .put-word .ensures)
+    let a = c11 .args in
+    head-more (a .numbers .now) (a .heads .now) (c7 .loop .inv) (omega arith) _ _
+    (c3 .number-of .ensures) (c .before .before .put-word .ensures)
 
 same-length : tie.Need-same-length Inv-loop μ-loop
 same-length c = search needs

@@ -1,3 +1,4 @@
+-- `writer::put::put_own_heads`: each turn writes one head.
 use Rattle.rules.specs.Sets.{unchanging}
 use Prim.Native.Nat.{_-_}
 use mathlib.Core.Path.{refl}

@@ -72,7 +72,8 @@ returns-3 c =
     let c5 = c4 .before in
     let c6 = c5 .before in
     let c8 = c6 .before .before in
-    and-put _ _ _ _ _ (c8 .node3 .given .1) (c4 .if1 .taken) (c6 .number-of2 .ensures) (c5 .number-of3 .ensures) (c .before .before .put-parts3 .ensures)
+    and-put _ _ _ _ _ (c8 .node3 .given .1) (c4 .if1 .taken)
+    (c6 .number-of2 .ensures) (c5 .number-of3 .ensures) (c .before .before .put-parts3 .ensures)
 
 same-length-4 : tie.Need-same-length-4
 same-length-4 c = search needs
@@ -83,7 +84,8 @@ returns-4 c =
     let c5 = c4 .before in
     let c6 = c5 .before in
     let c8 = c6 .before .before in
-    or-put _ _ _ _ _ (c8 .node3 .given .1) (c4 .if1 .left) (c6 .number-of2 .ensures) (c5 .number-of3 .ensures) (c .before .before .put-parts4 .ensures)
+    or-put _ _ _ _ _ (c8 .node3 .given .1) (c4 .if1 .left)
+    (c6 .number-of2 .ensures) (c5 .number-of3 .ensures) (c .before .before .put-parts4 .ensures)
 
 pub put-row-spec : {M : Type 1} → statement M
 put-row-spec =

@@ -1,3 +1,4 @@
+-- `writer::put::put_rows`: each turn writes what is kept of one row.
 use Prim.Native.Nat.{_-_, _≤_}
 use Rattle.writer.specs.Kept.{Rowing, rowing-none, rowing-fits, rowing-more, rowing-all}
 use native.Mathlib.Omega.{arith}

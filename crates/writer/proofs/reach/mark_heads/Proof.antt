@@ -1,3 +1,4 @@
+-- `writer::reach::mark_heads`: each turn marks one head, the last first.
 use Prim.Native.Nat.{_-_}
 use Rattle.writer.specs.Marks.{Heading, heads-none, heads-more, heads-all}
 use native.Mathlib.Omega.{arith}

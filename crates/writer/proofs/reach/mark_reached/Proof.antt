@@ -1,3 +1,4 @@
+-- `writer::reach::mark_reached`: each turn goes through one row, the last first.
 use Rattle.rows.specs.Entries.{tableIn}
 use lib.ListN.{length}
 use mathlib.Core.Path.{_≡_, refl}
@@ -9,7 +10,8 @@ use Rattle.writer.proofs.reach.mark_reached.Statement.{statement}
 use Rattle.writer.proofs.reach.mark_reached.Tie as tie
 
 abbrev Inv-loop : tie.InvT-loop
-Inv-loop heads rows used numbers₀ leaves k₀ numbers k = Marking (tableIn rows used) heads k numbers × (k ≤ used) × (length numbers ≡ length numbers₀)
+Inv-loop heads rows used numbers₀ leaves k₀ numbers k =
+    Marking (tableIn rows used) heads k numbers × (k ≤ used) × (length numbers ≡ length numbers₀)
 
 abbrev μ-loop : tie.MeasureT-loop
 μ-loop heads rows used numbers₀ leaves k₀ numbers k = k
