@@ -23,3 +23,14 @@ pub fn clear_numbers(work: &mut [u16])
         i += 1;
     }
 }
+
+// Clears lent rows.
+pub fn clear_rows(work: &mut [u64])
+    ensures { λ _. ⌜ now (work .exit) ≡ workAfter (now (work .entry)) ⌝ }
+{
+    let mut i = 0;
+    while i < work.len() {
+        work[i] = 0;
+        i += 1;
+    }
+}
