@@ -2,3 +2,4 @@
 pub mod Carrying
 pub mod CarryLaws
 pub mod Copying
+pub mod Contract
