@@ -11,6 +11,7 @@ use Rattle.rules.specs.Edition.{old, countAt, mostRows}
 use Rattle.rules.specs.Shape.{Shape}
 use Rattle.rules.specs.Rows.{Row, leaf, inv, bin, rowAt, make, plan}
 use Rattle.rules.specs.SetFile.{TransferSet, leaves, rowPlace, spelt, fits, named, checkRows, readSet}
+use Rattle.laws.specs.Canonical.{Below}
 use Rattle.sets.specs.Spelt.{Sized, rowsIn, setWith}
 
 -- R49, R65: checking a set file is reading it, and handing nothing back.
@@ -48,17 +49,20 @@ pub record Among (file : List ℕ) (sh : Shape) (k : ℕ) : Type 0 where
 abbrev pub FitBefore : List ℕ → Shape → ℕ → Type 0
 FitBefore file sh k = (i : ℕ) → leaves sh ≤ i → i < k → fits (setWith file sh .tab) i ≡ true
 
--- R43: the rule makes row k as it stands.
-abbrev pub Made : List ℕ → Shape → ℕ → Type 0
-Made file sh k =
-    let t = setWith file sh .tab in
-    plan t (rowAt t k) ≡ make (rowAt t k)
-
 -- R29: the larger operand of a row that the rule makes.
 abbrev pub lastOf : Row → ℕ
 lastOf (leaf i) = 0
 lastOf (inv a) = a
 lastOf (bin o a b) = b
+
+-- R43: row k comes after rows that fit, its operands are earlier, and the rule makes it as it stands; `last` is its larger operand.
+pub record Made (file : List ℕ) (sh : Shape) (k last : ℕ) : Type 0 where
+  pub whole : Whole file sh
+  pub among : Among file sh k
+  pub before : FitBefore file sh k
+  pub below : Below k (rowAt (setWith file sh .tab) k)
+  pub made : plan (setWith file sh .tab) (rowAt (setWith file sh .tab) k) ≡ make (rowAt (setWith file sh .tab) k)
+  pub larger : last ≡ lastOf (rowAt (setWith file sh .tab) k)
 
 -- R42: whether the five bytes at two places are the same.
 unfoldable pub sameAt : List ℕ → ℕ → ℕ → Bool

@@ -21,7 +21,7 @@ use Rattle.laws.specs.Rows.{same-true, same-refl, find-first, find-at}
 use Rattle.laws.specs.Fits.{fits-true}
 use Rattle.laws.specs.Search.{none-early}
 use Rattle.sets.specs.Spelt.{sized-inside, speltRow, row-leaf, row-bytes, spelt-row, spelt-length}
-use Rattle.sets.specs.Contracts.{Whole, Among, FitBefore, Made, lastOf, sameAt}
+use Rattle.sets.specs.Contracts.{Whole, Among, Made, lastOf, sameAt}
 use Rattle.sets.specs.Spelt.{rowsIn, setWith}
 
 -- Tests that hold together are the same.
@@ -171,84 +171,86 @@ last-low k (bin o a c) h b = b .1
 leaf-differs : (i : ℕ) (r : Row) → 1 ≤ kind r → same (leaf i) r ≡ false
 leaf-differs i r h = rw (ne-eqb 0 (kind r) (λ e. omega arith)) refl
 
+-- R26, R41: a row of the table before the operation rows, and one of them.
+module _ (file : List ℕ) (sh : Shape) (i : ℕ) where
+  at-leaf : i < leaves sh → rowAt (setWith file sh .tab) i ≡ leaf i
+  at-leaf h = spelt-row file sh (rowsIn file) i (omega arith) ∙ sym (row-leaf file sh i h)
+
+  pub at-bytes : leaves sh ≤ i → i < leaves sh + rowsIn file
+      → rowAt (setWith file sh .tab) i ≡ rowIn file (rowPlace old sh (i - leaves sh))
+  at-bytes h l = spelt-row file sh (rowsIn file) i l ∙ sym (row-bytes file sh i h)
+
 module _ (file : List ℕ) (sh : Shape) (w : Whole file sh) (k : ℕ) (m : Among file sh k) where
-  abbrev t : List Row
-  t = setWith file sh .tab
-
-  at-leaf : (i : ℕ) → i < leaves sh → rowAt t i ≡ leaf i
-  at-leaf i h = spelt-row file sh (rowsIn file) i (omega arith) ∙ sym (row-leaf file sh i h)
-
-  at-bytes : (i : ℕ) → leaves sh ≤ i → i < leaves sh + rowsIn file → rowAt t i ≡ rowIn file (rowPlace old sh (i - leaves sh))
-  at-bytes i h l = spelt-row file sh (rowsIn file) i l ∙ sym (row-bytes file sh i h)
-
   -- The row that was read is row k.
-  pub here : (r : Row) → r ≡ speltRow file sh k → r ≡ rowAt t k
+  pub here : (r : Row) → r ≡ speltRow file sh k → r ≡ rowAt (setWith file sh .tab) k
   here r e = e ∙ sym (spelt-row file sh (rowsIn file) k (m .low))
 
   pub inside : leaves sh ≤ k → rowPlace old sh (k - leaves sh) + 5 ≤ length file
   inside = sized-inside file sh (rowsIn file) k w (m .low)
 
-  module _ (f : FitBefore file sh k) (b : Below k (rowAt t k)) (d : Made file sh k) (last : ℕ)
-      (e : last ≡ lastOf (rowAt t k)) where
-    operation : 1 ≤ kind (rowAt t k)
-    operation = made-kind t (rowAt t k) d
+module _ (file : List ℕ) (sh : Shape) (k last : ℕ) (d : Made file sh k last) where
+  abbrev t : List Row
+  t = setWith file sh .tab
 
-    below : (i : ℕ) → i < k → Below i (rowAt t i)
-    below i h = elim (decLt i (leaves sh)) [
-      | yes l ↦ rw (at-leaf i l) tt
-      | no l ↦ fits-true t i (f i (omega arith) h) .earlier
-    ]
+  operation : 1 ≤ kind (rowAt t k)
+  operation = made-kind t (rowAt t k) (d .made)
 
-    -- R43: up to the larger operand no row is equal to row k.
-    early : (i : ℕ) → i < leaves sh + (suc last - leaves sh) → same (rowAt t i) (rowAt t k) ≡ false
-    early i h = elim (decLt i (leaves sh)) [
-      | yes l ↦ rw (at-leaf i l) (leaf-differs i (rowAt t k) operation)
-      | no l ↦ none-early t (rowAt t k) last k (rw e (last-elem (rowAt t k) operation))
-          (rw e (last-low k (rowAt t k) operation b)) below i (omega arith)
-    ]
+  below : (i : ℕ) → i < k → Below i (rowAt t i)
+  below i h = elim (decLt i (leaves sh)) [
+    | yes l ↦ rw (at-leaf file sh i l) tt
+    | no l ↦ fits-true t i (d .before i (omega arith) h) .earlier
+  ]
 
-    bytes : (i : ℕ) → leaves sh ≤ i → i < k
-        → same (rowAt t i) (rowAt t k) ≡ sameAt file (rowPlace old sh (i - leaves sh)) (rowPlace old sh (k - leaves sh))
-    bytes i h l =
-        let x = at-bytes i h (omega (arith, m .low)) in
-        let y = at-bytes k (m .high) (m .low) in
-        rw (x, y) (same-bytes file _ (rowPlace old sh (k - leaves sh)) (rw y at operation))
+  -- R43: up to the larger operand no row is equal to row k.
+  early : (i : ℕ) → i < leaves sh + (suc last - leaves sh) → same (rowAt t i) (rowAt t k) ≡ false
+  early i h = elim (decLt i (leaves sh)) [
+    | yes l ↦ rw (at-leaf file sh i l) (leaf-differs i (rowAt t k) operation)
+    | no l ↦ none-early t (rowAt t k) last k (rw (d .larger) (last-elem (rowAt t k) operation))
+        (rw (d .larger) (last-low k (rowAt t k) operation (d .below))) below i (omega arith)
+  ]
 
-    module _ (first n at : ℕ) (x : first ≡ rowPlace old sh 0) (y : n ≡ suc k - leaves sh - 1) (z : at ≡ first + 5 * n) where
-      -- R43: an equal row before row k.
-      pub equal-found : (j : ℕ) → j < n → sameAt file (first + 5 * j) at ≡ true → false ≡ eqb (find t (rowAt t k)) k
-      equal-found j h q =
-          let i = leaves sh + j in
-          let u : first + 5 * j ≡ rowPlace old sh (i - leaves sh) = omega arith in
-          let v : at ≡ rowPlace old sh (k - leaves sh) = omega (arith, m .high) in
-          let s : same (rowAt t i) (rowAt t k) ≡ true = bytes i (omega arith) (omega (arith, m .high))
-          ∙ rw (← u, ← v) q in
-          sym (ne-eqb (find t (rowAt t k)) k λ g.
-          let o = find-first t (rowAt t k) i (omega (arith, m .high)) in
-          let c : _≡_ {A = ℕ} 0 1 = cc in
-          omega arith)
+  bytes : (i : ℕ) → leaves sh ≤ i → i < k
+      → same (rowAt t i) (rowAt t k) ≡ sameAt file (rowPlace old sh (i - leaves sh)) (rowPlace old sh (k - leaves sh))
+  bytes i h l =
+      let x = at-bytes file sh i h (omega (arith, d .among .low)) in
+      let y = at-bytes file sh k (d .among .high) (d .among .low) in
+      rw (x, y) (same-bytes file _ (rowPlace old sh (k - leaves sh)) (rw y at operation))
 
-      -- R43: none.
-      pub none-found : (j j₀ : ℕ) → n ≤ j → j₀ ≡ suc last - leaves sh → Searching (λ i. sameAt file (first + 5 * i) at) j₀ j
-          → true ≡ eqb (find t (rowAt t k)) k
-      none-found j j₀ h g s =
-          sym (eq-eqb (find t (rowAt t k)) k (find-at t k (omega (arith, m .low, spelt-length file sh (rowsIn file))) none))
-        where
-          differs : (i : ℕ) → i < k → same (rowAt t i) (rowAt t k) ≡ false
-          differs i l = elim (decLt i (leaves sh + (suc last - leaves sh))) [
-            | yes q ↦ early i q
-            | no q ↦
-                let u : first + 5 * (i - leaves sh) ≡ rowPlace old sh (i - leaves sh) = omega arith in
-                let v : at ≡ rowPlace old sh (k - leaves sh) = omega (arith, m .high) in
-                bytes i (omega arith) l ∙ rw (← u, ← v) (s .none (i - leaves sh) (omega arith) (omega arith))
-          ]
+  module _ (first n at : ℕ) (x : first ≡ rowPlace old sh 0) (y : n ≡ suc k - leaves sh - 1) (z : at ≡ first + 5 * n) where
+    -- R43: an equal row before row k.
+    pub equal-found : (j : ℕ) → j < n → sameAt file (first + 5 * j) at ≡ true → false ≡ eqb (find t (rowAt t k)) k
+    equal-found j h q =
+        let i = leaves sh + j in
+        let u : first + 5 * j ≡ rowPlace old sh (i - leaves sh) = omega arith in
+        let v : at ≡ rowPlace old sh (k - leaves sh) = omega (arith, d .among .high) in
+        let s : same (rowAt t i) (rowAt t k) ≡ true = bytes i (omega arith) (omega (arith, d .among .high))
+        ∙ rw (← u, ← v) q in
+        sym (ne-eqb (find t (rowAt t k)) k λ g.
+        let o = find-first t (rowAt t k) i (omega (arith, d .among .high)) in
+        let c : _≡_ {A = ℕ} 0 1 = cc in
+        omega arith)
 
-          none : (i : ℕ) → i < k → rowAt t i ≡ rowAt t k → ⊥
-          none i l q =
-              let o = differs i l in
-              let r = same-refl (rowAt t k) in
-              let c : _≡_ {A = ℕ} 0 1 = cc in
-              omega arith
+    -- R43: none.
+    pub none-found : (j j₀ : ℕ) → n ≤ j → j₀ ≡ suc last - leaves sh → Searching (λ i. sameAt file (first + 5 * i) at) j₀ j
+        → true ≡ eqb (find t (rowAt t k)) k
+    none-found j j₀ h g s =
+        sym (eq-eqb (find t (rowAt t k)) k (find-at t k (omega (arith, d .among .low, spelt-length file sh (rowsIn file))) none))
+      where
+        differs : (i : ℕ) → i < k → same (rowAt t i) (rowAt t k) ≡ false
+        differs i l = elim (decLt i (leaves sh + (suc last - leaves sh))) [
+          | yes q ↦ early i q
+          | no q ↦
+              let u : first + 5 * (i - leaves sh) ≡ rowPlace old sh (i - leaves sh) = omega arith in
+              let v : at ≡ rowPlace old sh (k - leaves sh) = omega (arith, d .among .high) in
+              bytes i (omega arith) l ∙ rw (← u, ← v) (s .none (i - leaves sh) (omega arith) (omega arith))
+        ]
+
+        none : (i : ℕ) → i < k → rowAt t i ≡ rowAt t k → ⊥
+        none i l q =
+            let o = differs i l in
+            let r = same-refl (rowAt t k) in
+            let c : _≡_ {A = ℕ} 0 1 = cc in
+            omega arith
 
 -- ---- a row that fits
 

@@ -17,7 +17,8 @@ use Rattle.rules.specs.SetFile.{leaves, headAt, rowPlace, rowOf, rowIn, named}
 use Rattle.laws.specs.Lists.{elem-append, elem-at, Searching}
 use Rattle.laws.specs.Named.{named-row}
 use Rattle.laws.specs.Search.{elem-none, operands-none}
-use Rattle.sets.specs.Spelt.{spelt-row, spelt-length, spelt-head, spelt-heads, row-bytes}
+use Rattle.sets.specs.Spelt.{spelt-length, spelt-head, spelt-heads}
+use Rattle.sets.specs.Fit.{at-bytes}
 use Rattle.sets.specs.Contracts.{Among}
 use Rattle.sets.specs.Spelt.{rowsIn, setWith}
 
@@ -79,18 +80,17 @@ module _ (file : List ℕ) (sh : Shape) (k : ℕ) (m : Among file sh k) (first r
   abbrev t : List Row
   t = setWith file sh .tab
 
-  at-bytes : (j : ℕ) → j < rows → rowAt t (leaves sh + j) ≡ rowIn file (first + 5 * j)
-  at-bytes j h =
+  row-at : (j : ℕ) → j < rows → rowAt t (leaves sh + j) ≡ rowIn file (first + 5 * j)
+  row-at j h =
       let z : rowPlace old sh (leaves sh + j - leaves sh) ≡ first + 5 * j = omega arith in
-      spelt-row file sh (rowsIn file) (leaves sh + j) (omega arith) ∙ sym (row-bytes file sh (leaves sh + j) (omega arith))
-      ∙ ap (rowIn file) z
+      at-bytes file sh (leaves sh + j) (omega arith) (omega arith) ∙ ap (rowIn file) z
 
   pub operand-is : (j : ℕ) → suc k - leaves sh ≤ j → j < rows → elem k (operands (rowIn file (first + 5 * j))) ≡ true
       → true ≡ elem k (flatMap operands (drop (suc k) t))
   unfolding named
   operand-is j h l e =
       let n = spelt-length file sh (rowsIn file) in
-      sym (named-row t [] k (leaves sh + j) (omega (arith, m .high)) (omega arith) (rw (at-bytes j l) e))
+      sym (named-row t [] k (leaves sh + j) (omega (arith, m .high)) (omega arith) (rw (row-at j l) e))
 
   pub operand-none : (j j₀ : ℕ) → rows ≤ j → j₀ ≡ suc k - leaves sh
       → Searching (λ j. elem k (operands (rowIn file (first + 5 * j)))) j₀ j
@@ -102,7 +102,7 @@ module _ (file : List ℕ) (sh : Shape) (k : ℕ) (m : Among file sh k) (first r
           let q : suc k + i - leaves sh < rows = omega (arith, m .high, length-drop (suc k) t, spelt-length file sh (rowsIn file)) in
           let z : suc k + i ≡ leaves sh + (suc k + i - leaves sh) = omega (arith, m .high) in
           let at : rowAt (drop (suc k) t) i ≡ rowIn file (first + 5 * (suc k + i - leaves sh)) = getD-drop (suc k) t i (leaf 0)
-          ∙ ap (rowAt t) z ∙ at-bytes (suc k + i - leaves sh) q in
+          ∙ ap (rowAt t) z ∙ row-at (suc k + i - leaves sh) q in
           ap (λ r. elem k (operands r)) at ∙ s .none (suc k + i - leaves sh) (omega (arith, m .high)) (omega arith)
 
 -- ---- a head or a later row

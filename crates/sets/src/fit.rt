@@ -10,7 +10,7 @@ use rows::rule::Plan;
 use rows::rule::plan_not;
 use rows::rule::plan_two;
 ghost use mathlib.Core.Path.{_≡_};
-ghost use Prim.Native.Nat.{suc, _+_, _-_, _≤_, _<_};
+ghost use Prim.Native.Nat.{suc, _+_, _-_, _≤_};
 ghost use lib.Dec.{eqb};
 ghost use Rattle.rules.specs.Rows as R;
 ghost use Rattle.rules.specs.Sets.{operands};
@@ -96,12 +96,7 @@ fn same_bytes(file: &[u8], p: usize, q: usize) -> bool
 // R43: whether no row before row k is equal to it. The search begins after row k's larger operand: a row that has that operand too
 // stands after it.
 fn none_equal(file: &[u8], shape: Shape, last: Row, k: Row) -> bool
-    requires { ⌜ Whole (now file) (shapeOf shape) ⌝ }
-    requires { ⌜ Among (now file) (shapeOf shape) (k .0) ⌝ }
-    requires { ⌜ FitBefore (now file) (shapeOf shape) (k .0) ⌝ }
-    requires { ⌜ Below (k .0) (R.rowAt (setWith (now file) (shapeOf shape) .tab) (k .0)) ⌝ }
-    requires { ⌜ Made (now file) (shapeOf shape) (k .0) ⌝ }
-    requires { ⌜ last .0 ≡ lastOf (R.rowAt (setWith (now file) (shapeOf shape) .tab) (k .0)) ⌝ }
+    requires { ⌜ Made (now file) (shapeOf shape) (k .0) (last .0) ⌝ }
     ensures { λ r.
         ⌜ (let t = setWith (now (file .entry)) (shapeOf shape) .tab in r ≡ eqb (R.find t (R.rowAt t (k .0))) (k .0)) ⌝ }
 {

@@ -19,17 +19,24 @@ add-if1-2 c = search needs
 
 returns : tie.Need-returns
 returns c =
-    let a = c .before .before .before .before .args in
-    rest-count (a .file .now) (shapeOf (a .shape)) _ (c .before .before .word .ensures .0) (omega (arith, c .before .cells .ensures, c .if1 .taken))
+    let c2 = c .before .before in
+    let c4 = c2 .before .before in
+    let a = c4 .args in
+    rest-count (a .file .now) (shapeOf (a .shape)) _ (c2 .word .ensures .0)
+    (omega (arith, c .before .cells .ensures, c .if1 .taken))
 
 row-place-requires : tie.Need-row-place-requires
 row-place-requires c κs = omega (arith, c .before .before .word .ensures .1)
 
 returns-2 : tie.Need-returns-2
 returns-2 c =
-    let a = c .before .before .before .before .before .before .args in
-    rest-short (a .file .now) (shapeOf (a .shape)) _ (c .before .before .before .before .word .ensures .0)
-    (omega (arith, c .before .before .before .cells .ensures, c .before .before .if1 .left)) _ (c .before .row-place .ensures) (omega arith)
+    let c2 = c .before .before in
+    let c3 = c2 .before in
+    let c4 = c3 .before in
+    let c6 = c4 .before .before in
+    let a = c6 .args in
+    rest-short (a .file .now) (shapeOf (a .shape)) _ (c4 .word .ensures .0)
+    (omega (arith, c3 .cells .ensures, c2 .if1 .left)) _ (c .before .row-place .ensures) (omega arith)
 
 returns-3 : tie.Need-returns-3
 returns-3 c =

@@ -19,8 +19,11 @@ add-t10 c = omega (arith, c .before .cells .ensures, c .if1 .taken, c .before .b
 
 returns : tie.Need-returns
 returns c =
-    let a = c .before .before .before .before .args in
-    rows-head (a .file .now) (shapeOf (a .shape)) _ (c .before .before .first-bad-head .ensures) (omega (arith, c .before .cells .ensures, c .if1 .taken))
+    let c2 = c .before .before in
+    let c4 = c2 .before .before in
+    let a = c4 .args in
+    rows-head (a .file .now) (shapeOf (a .shape)) _ (c2 .first-bad-head .ensures)
+    (omega (arith, c .before .cells .ensures, c .if1 .taken))
 
 word-requires : tie.Need-word-requires
 word-requires c κs = omega (arith, c .before .before .before .before .pre .size)
@@ -33,10 +36,16 @@ row-place-requires c κs = omega (arith, c .if2 .taken, c .before .before .word 
 
 returns-2 : tie.Need-returns-2
 returns-2 c =
-    let a = c .before .before .before .before .before .before .before .before .args in
-    rows-unfit (a .file .now) (shapeOf (a .shape)) _ (c .before .before .before .before .before .before .first-bad-head .ensures)
-    (omega (arith, c .before .before .before .before .before .cells .ensures, c .before .before .before .before .if1 .left)) _
-    (c .before .before .before .word .ensures .0) _ (c .before .before .first-unfit .ensures) (c .before .if2 .taken) _ (c .row-place .ensures)
+    let c2 = c .before .before in
+    let c3 = c2 .before in
+    let c4 = c3 .before in
+    let c5 = c4 .before in
+    let c6 = c5 .before in
+    let c8 = c6 .before .before in
+    let a = c8 .args in
+    rows-unfit (a .file .now) (shapeOf (a .shape)) _ (c6 .first-bad-head .ensures)
+    (omega (arith, c5 .cells .ensures, c4 .if1 .left)) _
+    (c3 .word .ensures .0) _ (c2 .first-unfit .ensures) (c .before .if2 .taken) _ (c .row-place .ensures)
 
 first-unnamed-requires : tie.Need-first-unnamed-requires
 first-unnamed-requires c κs = search needs
@@ -46,11 +55,12 @@ row-place-requires-2 c κs = omega (arith, c .if3 .taken, c .before .before .bef
 
 returns-3 : tie.Need-returns-3
 returns-3 c =
-    let d = c .before .before .before in
+    let c2 = c .before .before in
+    let d = c2 .before in
     let a = d .before .before .before .before .before .before .before .args in
     rows-unnamed (a .file .now) (shapeOf (a .shape)) _ (d .before .before .before .before .before .first-bad-head .ensures)
     (omega (arith, d .before .before .before .before .cells .ensures, d .before .before .before .if1 .left)) _
-    (d .before .before .word .ensures .0) _ (d .before .first-unfit .ensures) (d .if2 .left) _ (c .before .before .first-unnamed .ensures)
+    (d .before .before .word .ensures .0) _ (d .before .first-unfit .ensures) (d .if2 .left) _ (c2 .first-unnamed .ensures)
     (c .before .if3 .taken) _ (c .row-place2 .ensures)
 
 returns-4 : tie.Need-returns-4
@@ -59,7 +69,8 @@ returns-4 c =
     let a = d .before .before .before .before .before .before .before .args in
     rows-good (a .file .now) (shapeOf (a .shape)) _ (d .before .before .before .before .before .first-bad-head .ensures)
     (omega (arith, d .before .before .before .before .cells .ensures, d .before .before .before .if1 .left)) _
-    (d .before .before .word .ensures .0) _ (d .before .first-unfit .ensures) (d .if2 .left) _ (c .before .first-unnamed .ensures)
+    (d .before .before .word .ensures .0) _ (d .before .first-unfit .ensures) (d .if2 .left) _
+    (c .before .first-unnamed .ensures)
     (c .if3 .left)
 
 pub check-rows-spec : {M : Type 1} → statement M

@@ -36,17 +36,26 @@ cast-t10 : tie.Need-cast-t10 Inv-loop μ-loop
 cast-t10 c = omega (arith, c .before .before .before .cells .ensures, c .before .before .before .before .before .pre .room)
 
 head-in-requires : tie.Need-head-in-requires Inv-loop μ-loop
-head-in-requires c κs = omega (arith, c .before .before .before .cells .ensures, c .before .before .before .before .before .pre .size)
+head-in-requires c κs =
+    let c3 = c .before .before .before in
+    let c5 = c3 .before .before in
+    omega (arith, c3 .cells .ensures, c5 .pre .size)
 
 cast-if1 : tie.Need-cast-if1 Inv-loop μ-loop
 cast-if1 c = search needs
 
 returns : tie.Need-returns Inv-loop μ-loop
 returns c =
-    let s = c .before .before .before .before .before .before .before .before in
+    let c2 = c .before .before in
+    let c3 = c2 .before in
+    let c4 = c3 .before in
+    let c5 = c4 .before in
+    let c6 = c5 .before in
+    let s = c6 .before .before in
     let a = s .args in
-    let q = c .before .before .before .before .before .before .cells .ensures in
-    head-bad (a .file .now) (shapeOf (a .shape)) _ _ q (omega (arith, q, c .before .before .before .before .before .word .ensures .0)) _ (c .before .before .before .before .loop .inv .0) (c .before .before .before .loop-test .taken) (omega (arith, c .if1 .taken, c .before .before .head-in .ensures))
+    let q = c6 .cells .ensures in
+    head-bad (a .file .now) (shapeOf (a .shape)) _ _ q (omega (arith, q, c5 .word .ensures .0)) _ (c4 .loop .inv .0)
+    (c3 .loop-test .taken) (omega (arith, c .if1 .taken, c2 .head-in .ensures))
 
 add-c : tie.Need-add-c Inv-loop μ-loop
 add-c c = search needs
@@ -55,14 +64,20 @@ loop-less : tie.Need-loop-less Inv-loop μ-loop
 loop-less c = search needs
 
 loop-again : tie.Need-loop-again Inv-loop μ-loop
-loop-again c = (searching-more _ (c .before .before .before .before .loop .inv .0) (head-fine _ _ _ _ (c .before .before .head-in .ensures) (c .if1 .left)), omega arith)
+loop-again c =
+    let c2 = c .before .before in
+    let c4 = c2 .before .before in
+    (searching-more _ (c4 .loop .inv .0) (head-fine _ _ _ _ (c2 .head-in .ensures) (c .if1 .left)), omega arith)
 
 returns-2 : tie.Need-returns-2 Inv-loop μ-loop
 returns-2 c =
-    let s = c .before .before .before .before .before in
+    let c2 = c .before .before in
+    let c3 = c2 .before in
+    let s = c3 .before .before in
     let a = s .args in
-    let q = c .before .before .before .cells .ensures in
-    heads-good (a .file .now) (shapeOf (a .shape)) _ _ q (omega (arith, q, c .before .before .word .ensures .0)) _ (c .before .loop .inv .0) (c .before .loop .inv .1) (c .loop-test .left)
+    let q = c3 .cells .ensures in
+    heads-good (a .file .now) (shapeOf (a .shape)) _ _ q (omega (arith, q, c2 .word .ensures .0)) _ (c .before .loop .inv .0)
+    (c .before .loop .inv .1) (c .loop-test .left)
 
 pub first-bad-head-spec : {M : Type 1} → statement M
 first-bad-head-spec =

@@ -32,8 +32,10 @@ add-t8 c = search needs
 
 cast-t9 : tie.Need-cast-t9 Inv-loop μ-loop
 cast-t9 c =
-    let s = c .before .before .before .before .before in
-    omega (arith, s .pre .room, c .before .before .before .cells .ensures, c .before .before .word .ensures .0, c .loop-test .taken)
+    let c2 = c .before .before in
+    let c3 = c2 .before in
+    let s = c3 .before .before in
+    omega (arith, s .pre .room, c3 .cells .ensures, c2 .word .ensures .0, c .loop-test .taken)
 
 row-named-requires : tie.Need-row-named-requires Inv-loop μ-loop
 row-named-requires c κs =
@@ -44,10 +46,15 @@ row-named-requires c κs =
 
 returns : tie.Need-returns Inv-loop μ-loop
 returns c =
-    let s = c .before .before .before .before .before .before .before in
+    let c2 = c .before .before in
+    let c3 = c2 .before in
+    let c4 = c3 .before in
+    let c5 = c4 .before in
+    let s = c5 .before .before in
     let a = s .args in
-    let t = unnamed-row (a .file .now) (shapeOf (a .shape)) _ _ (ap (λ x. 2 + x) (c .before .before .before .before .before .cells .ensures)) _ (c .before .row-named .ensures) in
-    searching-hit _ _ (c .before .before .before .loop .inv .0) (omega (arith, c .before .before .loop-test .taken, c .before .before .before .before .word .ensures .0)) (sym t ∙ c .if1 .taken)
+    let t = unnamed-row (a .file .now) (shapeOf (a .shape)) _ _
+    (ap (λ x. 2 + x) (c5 .cells .ensures)) _ (c .before .row-named .ensures) in
+    searching-hit _ _ (c3 .loop .inv .0) (omega (arith, c2 .loop-test .taken, c4 .word .ensures .0)) (sym t ∙ c .if1 .taken)
 
 add-j : tie.Need-add-j Inv-loop μ-loop
 add-j c = search needs
@@ -57,13 +64,24 @@ loop-less c = search needs
 
 loop-again : tie.Need-loop-again Inv-loop μ-loop
 loop-again c =
-    let s = c .before .before .before .before .before .before .before in
+    let c2 = c .before .before in
+    let c3 = c2 .before in
+    let c5 = c3 .before .before in
+    let s = c5 .before .before in
     let a = s .args in
-    let t = unnamed-row (a .file .now) (shapeOf (a .shape)) _ _ (ap (λ x. 2 + x) (c .before .before .before .before .before .cells .ensures)) _ (c .before .row-named .ensures) in
-    (searching-more _ (c .before .before .before .loop .inv .0) (sym t ∙ c .if1 .left), omega (arith, c .before .before .loop-test .taken))
+    let t = unnamed-row (a .file .now) (shapeOf (a .shape)) _ _
+    (ap (λ x. 2 + x) (c5 .cells .ensures)) _ (c .before .row-named .ensures) in
+    (searching-more _ (c3 .loop .inv .0) (sym t ∙ c .if1 .left), omega (arith, c2 .loop-test .taken))
 
 returns-2 : tie.Need-returns-2 Inv-loop μ-loop
-returns-2 c = searching-end _ _ (c .before .loop .inv .0) (omega (arith, c .before .loop .inv .1, c .loop-test .left, c .before .before .word .ensures .0))
+returns-2 c =
+    let c2 = c .before .before in
+    searching-end _ _ (c .before .loop .inv .0) (omega (
+      arith,
+      c .before .loop .inv .1,
+      c .loop-test .left,
+      c2 .word .ensures .0,
+    ))
 
 pub first-unnamed-spec : {M : Type 1} → statement M
 first-unnamed-spec =

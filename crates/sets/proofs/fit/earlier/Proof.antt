@@ -21,7 +21,10 @@ returns-2 : tie.Need-returns-2
 returns-2 c = earlier-not _ _ _ (ap nodeRow (c .before .before .before .node .given .1))
 
 returns-3 : tie.Need-returns-3
-returns-3 c = earlier-two _ _ _ _ _ (ap nodeRow (c .before .before .before .before .before .before .node2 .given .1)) (c .before .before .if1 .taken)
+returns-3 c =
+    let c2 = c .before .before in
+    let c6 = c2 .before .before .before .before in
+    earlier-two _ _ _ _ _ (ap nodeRow (c6 .node2 .given .1)) (c2 .if1 .taken)
 
 returns-4 : tie.Need-returns-4
 returns-4 c = late-two _ _ _ _ _ (ap nodeRow (c .before .before .before .before .node2 .given .1)) (c .if1 .left)

@@ -22,17 +22,17 @@ rows-to-requires : tie.Need-rows-to-requires Inv-loop μ-loop
 rows-to-requires c κs = search needs
 
 sub-n : tie.Need-sub-n Inv-loop μ-loop
-sub-n c = omega (arith, c .rows-to .ensures, c .before .before .before .pre .1 .0 .high)
+sub-n c = omega (arith, c .rows-to .ensures, c .before .before .before .pre .among .high)
 
 mul-at : tie.Need-mul-at Inv-loop μ-loop
 mul-at c =
     let s = c .before .before .before in
-    omega (arith, c .rows-to .ensures, s .pre .1 .0 .high)
+    omega (arith, c .rows-to .ensures, s .pre .among .high)
 
 add-at : tie.Need-add-at Inv-loop μ-loop
 add-at c =
     let s = c .before .before .before in
-    omega (arith, c .rows-to .ensures, c .before .row-place .ensures, s .pre .1 .0 .high)
+    omega (arith, c .rows-to .ensures, c .before .row-place .ensures, s .pre .among .high)
 
 rows-to-requires-2 : tie.Need-rows-to-requires-2 Inv-loop μ-loop
 rows-to-requires-2 c κs = search needs
@@ -51,17 +51,21 @@ same-bytes-requires c κs =
     let s = c .before .before .before .before .before .before in
     let p = c .before .before .before .before .row-place .ensures in
     let r = c .before .before .before .rows-to .ensures in
-    let z = s .pre .0 .size in
-    let h = s .pre .1 .0 .high in
-    let l = s .pre .1 .0 .low in
+    let z = s .pre .whole .size in
+    let h = s .pre .among .high in
+    let l = s .pre .among .low in
     (omega arith, omega arith)
 
 returns : tie.Need-returns Inv-loop μ-loop
 returns c =
-    let s = c .before .before .before .before .before .before .before .before in
+    let c2 = c .before .before in
+    let c5 = c2 .before .before .before in
+    let c6 = c5 .before in
+    let s = c6 .before .before in
     let a = s .args in
-    let n = ap (λ x. x - 1) (c .before .before .before .before .before .rows-to .ensures) in
-    equal-found (a .file .now) (shapeOf (a .shape)) (s .pre .0) _ (s .pre .1 .0) (s .pre .1 .1 .0) (s .pre .1 .1 .1 .0) (s .pre .1 .1 .1 .1 .0) _ (s .pre .1 .1 .1 .1 .1) _ _ _ (c .before .before .before .before .before .before .row-place .ensures) n refl _ (c .before .before .loop-test .taken) (sym (c .before .same-bytes .ensures) ∙ c .if1 .taken)
+    let n = ap (λ x. x - 1) (c5 .rows-to .ensures) in
+    equal-found (a .file .now) (shapeOf (a .shape)) _ _ (s .pre) _ _ _ (c6 .row-place .ensures) n refl _ (c2 .loop-test .taken)
+    (sym (c .before .same-bytes .ensures) ∙ c .if1 .taken)
 
 add-j : tie.Need-add-j Inv-loop μ-loop
 add-j c = search needs
@@ -74,10 +78,14 @@ loop-again c = searching-more _ (c .before .before .before .loop .inv) (sym (c .
 
 returns-2 : tie.Need-returns-2 Inv-loop μ-loop
 returns-2 c =
-    let s = c .before .before .before .before .before .before in
+    let c2 = c .before .before in
+    let c3 = c2 .before in
+    let c4 = c3 .before in
+    let s = c4 .before .before in
     let a = s .args in
-    let n = ap (λ x. x - 1) (c .before .before .before .rows-to .ensures) in
-    none-found (a .file .now) (shapeOf (a .shape)) (s .pre .0) _ (s .pre .1 .0) (s .pre .1 .1 .0) (s .pre .1 .1 .1 .0) (s .pre .1 .1 .1 .1 .0) _ (s .pre .1 .1 .1 .1 .1) _ _ _ (c .before .before .before .before .row-place .ensures) n refl _ _ (c .loop-test .left) (c .before .before .rows-to2 .ensures) (c .before .loop .inv)
+    let n = ap (λ x. x - 1) (c3 .rows-to .ensures) in
+    none-found (a .file .now) (shapeOf (a .shape)) _ _ (s .pre) _ _ _ (c4 .row-place .ensures) n refl _ _ (c .loop-test .left)
+    (c2 .rows-to2 .ensures) (c .before .loop .inv)
 
 pub none-equal-spec : {M : Type 1} → statement M
 none-equal-spec =

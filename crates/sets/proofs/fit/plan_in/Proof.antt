@@ -17,7 +17,8 @@ row-in-requires : tie.Need-row-in-requires
 row-in-requires c κs =
     let s = c .before .before .before .before in
     let sh = shapeOf (s .args .shape) in
-    sized-inside (s .args .file .now) sh _ _ (s .pre .0) (not-low _ _ (nodeRow (s .args .node)) (ap nodeRow (c .before .node2 .given .1)) (s .pre .1))
+    sized-inside (s .args .file .now) sh _ _ (s .pre .0) (not-low _ _ (nodeRow (s .args .node))
+    (ap nodeRow (c .before .node2 .given .1)) (s .pre .1))
 
 plan-not-requires : tie.Need-plan-not-requires
 plan-not-requires c κs = search needs
@@ -35,13 +36,17 @@ returns c =
 
 returns-2 : tie.Need-returns-2
 returns-2 c =
-    let s = c .before .before .before .before .before .before in
-    plan-inv (s .args .file .now) (shapeOf (s .args .shape)) _ _ _ _ (ap nodeRow (c .before .before .before .node2 .given .1)) (s .pre .1) (c .before .row-in .ensures) (c .plan-not .ensures)
+    let c3 = c .before .before .before in
+    let s = c3 .before .before .before in
+    plan-inv (s .args .file .now) (shapeOf (s .args .shape)) _ _ _ _ (ap nodeRow (c3 .node2 .given .1)) (s .pre .1)
+    (c .before .row-in .ensures) (c .plan-not .ensures)
 
 returns-3 : tie.Need-returns-3
 returns-3 c =
-    let s = c .before .before .before .before .before in
-    plan-bin (s .args .file .now) (shapeOf (s .args .shape)) _ _ _ _ _ (ap nodeRow (c .before .before .node3 .given .1)) (c .plan-two .ensures)
+    let c2 = c .before .before in
+    let s = c2 .before .before .before in
+    plan-bin (s .args .file .now) (shapeOf (s .args .shape)) _ _ _ _ _ (ap nodeRow (c2 .node3 .given .1))
+    (c .plan-two .ensures)
 
 pub plan-in-spec : {M : Type 1} → statement M
 plan-in-spec =

@@ -31,7 +31,13 @@ word-requires-4 : tie.Need-word-requires-4
 word-requires-4 c κs = search needs
 
 returns-2 : tie.Need-returns-2
-returns-2 c = left-differs _ _ _ _ _ (c .before .before .before .before .before .word .ensures .0) (c .before .before .before .before .word2 .ensures .0) (c .before .before .before .if1 .left) _ _ (c .before .before .word3 .ensures .0) (c .before .word4 .ensures .0) (c .if2 .taken)
+returns-2 c =
+    let c2 = c .before .before in
+    let c3 = c2 .before in
+    let c4 = c3 .before in
+    let c5 = c4 .before in
+    left-differs _ _ _ _ _ (c5 .word .ensures .0) (c4 .word2 .ensures .0) (c3 .if1 .left) _ _ (c2 .word3 .ensures .0)
+    (c .before .word4 .ensures .0) (c .if2 .taken)
 
 shared-slice-read-result : tie.Need-shared-slice-read-result
 shared-slice-read-result c = search needs
@@ -40,7 +46,15 @@ shared-slice-read-result-2 : tie.Need-shared-slice-read-result-2
 shared-slice-read-result-2 c = search needs
 
 returns-3 : tie.Need-returns-3
-returns-3 c = kind-decides _ _ _ _ _ (c .before .before .before .before .before .before .before .word .ensures .0) (c .before .before .before .before .before .before .word2 .ensures .0) (c .before .before .before .before .before .if1 .left) _ _ (c .before .before .before .before .word3 .ensures .0) (c .before .before .before .word4 .ensures .0) (c .before .before .if2 .left)
+returns-3 c =
+    let c2 = c .before .before in
+    let c3 = c2 .before in
+    let c4 = c3 .before in
+    let c5 = c4 .before in
+    let c6 = c5 .before in
+    let c7 = c6 .before in
+    kind-decides _ _ _ _ _ (c7 .word .ensures .0) (c6 .word2 .ensures .0) (c5 .if1 .left) _ _ (c4 .word3 .ensures .0)
+    (c3 .word4 .ensures .0) (c2 .if2 .left)
 
 pub same-bytes-spec : {M : Type 1} → statement M
 same-bytes-spec =

@@ -37,9 +37,13 @@ head-in-requires c κs =
 
 returns : tie.Need-returns Inv-loop μ-loop
 returns c =
-    let s = c .before .before .before .before .before .before .before .before in
+    let c3 = c .before .before .before in
+    let c4 = c3 .before in
+    let c6 = c4 .before .before in
+    let s = c6 .before .before in
     let a = s .args in
-    head-is (a .file .now) (shapeOf (a .shape)) _ _ (omega (arith, c .before .before .before .before .before .before .cells .ensures, c .before .before .before .before .loop-test .taken)) (sym (c .before .before .before .head-in .ensures) ∙ c .if1 .taken)
+    head-is (a .file .now) (shapeOf (a .shape)) _ _ (omega (arith, c6 .cells .ensures, c4 .loop-test .taken))
+    (sym (c3 .head-in .ensures) ∙ c .if1 .taken)
 
 add-c : tie.Need-add-c Inv-loop μ-loop
 add-c c = search needs
@@ -48,13 +52,18 @@ loop-less : tie.Need-loop-less Inv-loop μ-loop
 loop-less c = search needs
 
 loop-again : tie.Need-loop-again Inv-loop μ-loop
-loop-again c = searching-more _ (c .before .before .before .before .before .loop .inv) (ne-eqb _ _ λ e. c .if1 .left (c .before .before .before .head-in .ensures ∙ sym e))
+loop-again c =
+    let c3 = c .before .before .before in
+    let c5 = c3 .before .before in
+    searching-more _ (c5 .loop .inv) (ne-eqb _ _ λ e. c .if1 .left (c3 .head-in .ensures ∙ sym e))
 
 returns-2 : tie.Need-returns-2 Inv-loop μ-loop
 returns-2 c =
-    let s = c .before .before .before .before in
+    let c2 = c .before .before in
+    let s = c2 .before .before in
     let a = s .args in
-    head-none (a .file .now) (shapeOf (a .shape)) _ _ (omega (arith, c .before .before .cells .ensures, c .loop-test .left)) (c .before .loop .inv)
+    head-none (a .file .now) (shapeOf (a .shape)) _ _ (omega (arith, c2 .cells .ensures, c .loop-test .left))
+    (c .before .loop .inv)
 
 pub is-head-spec : {M : Type 1} → statement M
 is-head-spec =

@@ -35,19 +35,30 @@ mul-names-at c =
 
 add-names-at : tie.Need-add-names-at Inv-loop μ-loop
 add-names-at c =
-    let s = c .before .before .before .before .before .before in
-    omega (arith, c .before .before .before .before .row-place .ensures, c .before .before .before .word .ensures .1, s .pre .0 .room)
+    let c3 = c .before .before .before in
+    let c4 = c3 .before in
+    let s = c4 .before .before in
+    omega (arith, c4 .row-place .ensures, c3 .word .ensures .1, s .pre .0 .room)
 
 names-at-requires : tie.Need-names-at-requires Inv-loop μ-loop
 names-at-requires c κs =
-    let s = c .before .before .before .before .before .before in
-    omega (arith, c .before .before .before .before .row-place .ensures, c .before .before .before .word .ensures .0, s .pre .0 .size)
+    let c3 = c .before .before .before in
+    let c4 = c3 .before in
+    let s = c4 .before .before in
+    omega (arith, c4 .row-place .ensures, c3 .word .ensures .0, s .pre .0 .size)
 
 returns : tie.Need-returns Inv-loop μ-loop
 returns c =
-    let s = c .before .before .before .before .before .before .before .before in
+    let c2 = c .before .before in
+    let c3 = c2 .before in
+    let c4 = c3 .before in
+    let c5 = c4 .before in
+    let c6 = c5 .before in
+    let s = c6 .before .before in
     let a = s .args in
-    operand-is (a .file .now) (shapeOf (a .shape)) _ (s .pre .1) _ _ (c .before .before .before .before .before .before .row-place .ensures) (c .before .before .before .before .before .word .ensures .0) _ (omega (arith, c .before .before .before .before .rows-to .ensures, c .before .before .before .loop .inv .low)) (c .before .before .loop-test .taken) (sym (c .before .names-at .ensures) ∙ c .if1 .taken)
+    operand-is (a .file .now) (shapeOf (a .shape)) _ (s .pre .1) _ _ (c6 .row-place .ensures) (c5 .word .ensures .0) _
+    (omega (arith, c4 .rows-to .ensures, c3 .loop .inv .low)) (c2 .loop-test .taken)
+    (sym (c .before .names-at .ensures) ∙ c .if1 .taken)
 
 add-j : tie.Need-add-j Inv-loop μ-loop
 add-j c = search needs
@@ -60,9 +71,13 @@ loop-again c = searching-more _ (c .before .before .before .loop .inv) (sym (c .
 
 returns-2 : tie.Need-returns-2 Inv-loop μ-loop
 returns-2 c =
-    let s = c .before .before .before .before .before .before in
+    let c2 = c .before .before in
+    let c3 = c2 .before in
+    let c4 = c3 .before in
+    let s = c4 .before .before in
     let a = s .args in
-    operand-none (a .file .now) (shapeOf (a .shape)) _ (s .pre .1) _ _ (c .before .before .before .before .row-place .ensures) (c .before .before .before .word .ensures .0) _ _ (c .loop-test .left) (c .before .before .rows-to .ensures) (c .before .loop .inv)
+    operand-none (a .file .now) (shapeOf (a .shape)) _ (s .pre .1) _ _ (c4 .row-place .ensures) (c3 .word .ensures .0) _ _
+    (c .loop-test .left) (c2 .rows-to .ensures) (c .before .loop .inv)
 
 pub is-operand-spec : {M : Type 1} → statement M
 is-operand-spec =

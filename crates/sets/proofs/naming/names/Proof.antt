@@ -24,7 +24,10 @@ returns-3 : tie.Need-returns-3
 returns-3 c = names-first _ _ _ _ _ (ap nodeRow (c .before .before .before .before .node2 .given .1)) (c .if1 .taken)
 
 returns-4 : tie.Need-returns-4
-returns-4 c = names-second _ _ _ _ _ (ap nodeRow (c .before .before .before .before .before .before .node2 .given .1)) (c .before .before .if1 .left)
+returns-4 c =
+    let c2 = c .before .before in
+    let c6 = c2 .before .before .before .before in
+    names-second _ _ _ _ _ (ap nodeRow (c6 .node2 .given .1)) (c2 .if1 .left)
 
 pub names-spec : {M : Type 1} → statement M
 names-spec =

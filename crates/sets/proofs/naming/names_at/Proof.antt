@@ -22,7 +22,10 @@ word-requires-2 : tie.Need-word-requires-2
 word-requires-2 c κs = search needs
 
 returns : tie.Need-returns
-returns c = names-none _ _ _ _ _ (c .before .before .before .word .ensures .0) (c .before .word2 .ensures .0) (c .before .before .if1 .taken) (c .if2 .taken)
+returns c =
+    let c2 = c .before .before in
+    let c3 = c2 .before in
+    names-none _ _ _ _ _ (c3 .word .ensures .0) (c .before .word2 .ensures .0) (c2 .if1 .taken) (c .if2 .taken)
 
 node-in-requires : tie.Need-node-in-requires
 node-in-requires c κs = search needs
@@ -31,7 +34,9 @@ names-requires : tie.Need-names-requires
 names-requires c κs = search needs
 
 returns-2 : tie.Need-returns-2
-returns-2 c = c .names .ensures ∙ ap (λ r. elem (c .before .before .before .before .before .before .args .k .0) (operands r)) (c .before .node-in .ensures)
+returns-2 c =
+    let c6 = c .before .before .before .before .before .before in
+    c .names .ensures ∙ ap (λ r. elem (c6 .args .k .0) (operands r)) (c .before .node-in .ensures)
 
 pub names-at-spec : {M : Type 1} → statement M
 names-at-spec =
