@@ -125,7 +125,7 @@ module _ (first second : List ℕ) (shape : Shape) (p : Pair first second shape)
   headsY : length (Y .heads) ≡ C
   headsY = spelt-heads second (shapeAt old second) (rowsIn second) ∙ ap cells second-shape
 
-  standsX : Stands C (over (X .tab) (X .heads))
+  pub standsX : Stands C (over (X .tab) (X .heads))
   standsX = record { canonical = canonX; count = headsX; low = taken-proper first (p .one) .rows }
 
   pub standsY : Stands C (over (Y .tab) (Y .heads))

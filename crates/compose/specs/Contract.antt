@@ -1,6 +1,7 @@
 -- What composing answers, in the words of the rules, what it leaves in the output, and that there is one answer only.
 use Prim.Native.Nat.{ℕ, _+_, _≤_}
 use mathlib.Core.Path.{_≡_, refl, ap, ap₂, sym, _∙_}
+use mathlib.Core.Bool.{false}
 use mathlib.Core.List.{List}
 use lib.ListN.{length}
 use Rattle.rules.specs.Verdict.{Verdict, granted, refused}
@@ -10,11 +11,12 @@ use Rattle.rules.specs.Operations.{compose, outputAfter, Blamed, firstFile, sec
 use Rattle.base.specs.Answers.{refusedBy}
 use Rattle.base.specs.Refusals.{refusalOf, refusal-back}
 use Rattle.base.specs.declared.shape.Shape.{Shape}
+use Rattle.rows.specs.declared.table.Table.{Table}
 use Rattle.writer.specs.Contracts.{lengthOf}
 use Rattle.sets.specs.Spelt.{setIn, rowsIn}
 use Rattle.compose.specs.declared.Composed.{Composed}
 use Rattle.compose.specs.declared.Composed.the-variants.{Length, First, Second, Refused}
-use Rattle.compose.specs.Carrying.{Pair}
+use Rattle.compose.specs.Carrying.{Pair, Carrying}
 
 -- R51: the answer of the rules where so many rows and numbers, and that output, are lent.
 abbrev pub answer : List ℕ → List ℕ → ℕ → ℕ → List ℕ → Verdict (List ℕ)
@@ -50,6 +52,12 @@ pub record Pairs (first second : List ℕ) (shape : Shape) (total rows numbers :
   pub pair : Pair first second shape
   pub whole : total ≡ length (setIn first .tab)
   pub ready : Ready first second rows numbers
+
+-- All rows of the second set have been carried, and the table is not refused.
+pub record Finished (first second : List ℕ) (shape : Shape) (rows : List ℕ) (s : Table) (numbers : List ℕ) : Type 0 where
+  pub carrying : Carrying first second shape rows s numbers (rowsIn second)
+  pub ready : Ready first second (length rows) (length numbers)
+  pub kept : s .refused ≡ false
 
 -- R46, R51, R52: two results that meet the contract are the same, with the same output after.
 answerOf : Verdict ℕ → Blamed → Composed

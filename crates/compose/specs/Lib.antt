@@ -3,3 +3,4 @@ pub mod Carrying
 pub mod CarryLaws
 pub mod Copying
 pub mod Contract
+pub mod Answer

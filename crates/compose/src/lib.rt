@@ -27,7 +27,13 @@ pub enum Composed {
 }
 
 // Composes two accepted files.
-fn compose_both(first: &[u8], second: &[u8], rows: &mut [u64], numbers: &mut [u16], out: &mut [u8]) -> Composed
+fn compose_both(
+    first: &[u8],
+    second: &[u8],
+    rows: &mut [u64],
+    numbers: &mut [u16],
+    out: &mut [u8],
+) -> Composed
     requires { ⌜ Taken (now first) × Taken (now second) ⌝ }
     ensures { λ r. ⌜ Composes (now (first .entry)) (now (second .entry)) (length (now (rows .entry))) (length (now (numbers .entry))) r (now (out .entry)) (now (out .exit)) ⌝ }
 {
@@ -38,7 +44,13 @@ fn compose_both(first: &[u8], second: &[u8], rows: &mut [u64], numbers: &mut [u1
 }
 
 // R51: the first file is judged, then the second.
-fn compose_checked(first: &[u8], second: &[u8], rows: &mut [u64], numbers: &mut [u16], out: &mut [u8]) -> Composed
+fn compose_checked(
+    first: &[u8],
+    second: &[u8],
+    rows: &mut [u64],
+    numbers: &mut [u16],
+    out: &mut [u8],
+) -> Composed
     ensures { λ r. ⌜ Composes (now (first .entry)) (now (second .entry)) (length (now (rows .entry))) (length (now (numbers .entry))) r (now (out .entry)) (now (out .exit)) ⌝ }
 {
     match check_set(first) {
@@ -53,7 +65,13 @@ fn compose_checked(first: &[u8], second: &[u8], rows: &mut [u64], numbers: &mut 
 // R40, R51, R52, R56: composes two set files: the set that evaluates as the first and then the second. The first file is judged
 // (1, 2, 3, 4, 13), then the second, then the shapes (12), then the room (10). A refusal leaves the output as it came; rows and
 // numbers are zero after.
-pub fn compose(first: &[u8], second: &[u8], rows: &mut [u64], numbers: &mut [u16], out: &mut [u8]) -> Composed
+pub fn compose(
+    first: &[u8],
+    second: &[u8],
+    rows: &mut [u64],
+    numbers: &mut [u16],
+    out: &mut [u8],
+) -> Composed
     ensures { λ r. ⌜ Composes (now (first .entry)) (now (second .entry)) (length (now (rows .entry))) (length (now (numbers .entry))) r (now (out .entry)) (now (out .exit)) ⌝ }
     ensures { λ _. ⌜ now (rows .exit) ≡ workAfter (now (rows .entry)) ⌝ }
     ensures { λ _. ⌜ now (numbers .exit) ≡ workAfter (now (numbers .entry)) ⌝ }

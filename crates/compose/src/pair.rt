@@ -10,15 +10,14 @@ use rows::table::Table;
 use writer::Written;
 use writer::write_table;
 ghost use mathlib.Core.Path.{_≡_};
-ghost use mathlib.Core.Bool.{false};
 ghost use lib.ListN.{length};
+ghost use Rattle.rules.specs.Shape.{cells};
 ghost use Rattle.rules.specs.Room.{room};
 ghost use Rattle.rules.specs.Operations.{sameShape};
 ghost use Rattle.base.specs.Answers.{shapeOf};
 ghost use Rattle.writer.specs.Contracts.{Writes};
-ghost use Rattle.sets.specs.Spelt.{Taken, rowsIn};
-ghost use Rattle.compose.specs.Carrying.{Carrying};
-ghost use Rattle.compose.specs.Contract.{answer, Ready, Pairs};
+ghost use Rattle.sets.specs.Spelt.{Taken};
+ghost use Rattle.compose.specs.Contract.{answer, Pairs, Finished};
 
 // R40: whether two shapes are the same.
 fn same_shape(a: Shape, b: Shape) -> bool
@@ -34,7 +33,25 @@ fn room_in(rows: usize) -> usize
     if rows < 65535 { rows } else { 65535 }
 }
 
-// Writes the composed set: its heads fit the frame, since a shape has at most 217 cells (R1, R2).
+// Writes the composed set: the second set's heads are renumbered first.
+fn write_moved(
+    first: &[u8],
+    second: &[u8],
+    shape: Shape,
+    rows: &[u64],
+    table: Table,
+    numbers: &mut [u16],
+    heads: &mut [u16],
+    out: &mut [u8],
+) -> Written
+    requires { ⌜ Finished (now first) (now second) shape (now rows) table (now numbers) × (length (now heads) ≡ cells (shapeOf shape)) ⌝ }
+    ensures { λ r. ⌜ Writes (answer (now (first .entry)) (now (second .entry)) (length (now (rows .entry))) (length (now (numbers .entry))) (now (out .entry))) r (now (out .entry)) (now (out .exit)) ⌝ }
+{
+    move_heads(first, second, shape, numbers, heads);
+    write_table(shape, heads, rows, table.used, numbers, out)
+}
+
+// Lends the heads: a shape has at most 217 cells (R1, R2).
 fn write_composed(
     first: &[u8],
     second: &[u8],
@@ -44,14 +61,21 @@ fn write_composed(
     numbers: &mut [u16],
     out: &mut [u8],
 ) -> Written
-    requires { ⌜ Carrying (now first) (now second) shape (now rows) table (now numbers) (rowsIn (now second)) ⌝ }
-    requires { ⌜ Ready (now first) (now second) (length (now rows)) (length (now numbers)) × (table .refused ≡ false) ⌝ }
+    requires { ⌜ Finished (now first) (now second) shape (now rows) table (now numbers) ⌝ }
     ensures { λ r. ⌜ Writes (answer (now (first .entry)) (now (second .entry)) (length (now (rows .entry))) (length (now (numbers .entry))) (now (out .entry))) r (now (out .entry)) (now (out .exit)) ⌝ }
 {
     let mut heads = [0u16; 217];
     let cells = shape.cells();
-    move_heads(first, second, shape, numbers, &mut heads[..cells]);
-    write_table(shape, &heads[..cells], rows, table.used, numbers, out)
+    write_moved(
+        first,
+        second,
+        shape,
+        rows,
+        table,
+        numbers,
+        &mut heads[..cells],
+        out,
+    )
 }
 
 // R34, R40, R54: the first set's rows, the second's rewritten onto them, and the set written. An append that finds no row left is 10.
@@ -68,7 +92,10 @@ fn compose_pair(
     ensures { λ r. ⌜ Writes (answer (now (first .entry)) (now (second .entry)) (length (now (rows .entry))) (length (now (numbers .entry))) (now (out .entry))) r (now (out .entry)) (now (out .exit)) ⌝ }
 {
     copy_rows(first, shape, total, rows);
-    let start = Table { used: total, refused: false };
+    let start = Table {
+        used: total,
+        refused: false,
+    };
     let table = carry_rows(first, second, shape, rows, start, numbers);
     if table.refused {
         return Written::Refused(Refusal::NoRoom(room_in(rows.len()) as u32));
@@ -78,7 +105,13 @@ fn compose_pair(
 
 // R40, R51, R54, R56: composes two accepted files. The shapes are the same (12), each row of the first has a row (10), and each row
 // of both a number (10).
-pub fn compose_accepted(first: &[u8], second: &[u8], rows: &mut [u64], numbers: &mut [u16], out: &mut [u8]) -> Written
+pub fn compose_accepted(
+    first: &[u8],
+    second: &[u8],
+    rows: &mut [u64],
+    numbers: &mut [u16],
+    out: &mut [u8],
+) -> Written
     requires { ⌜ Taken (now first) × Taken (now second) ⌝ }
     ensures { λ r. ⌜ Writes (answer (now (first .entry)) (now (second .entry)) (length (now (rows .entry))) (length (now (numbers .entry))) (now (out .entry))) r (now (out .entry)) (now (out .exit)) ⌝ }
 {

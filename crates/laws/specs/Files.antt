@@ -66,7 +66,7 @@ build-accepted e s file rows numbers heads out P bytes p q =
     (read-shape e file P p) (d .1)
 
 -- Shapes that are found to be the same are equal.
-same-shape : (a b : Shape) → sameShape a b ≡ true → a ≡ b
+pub same-shape : (a b : Shape) → sameShape a b ≡ true → a ≡ b
 same-shape a b q =
     let (d, r) = both-true (eqb (a .depth) (b .depth)) _ q in
     let (i, t) = both-true (eqb (a .inputs) (b .inputs)) _ r in

@@ -76,16 +76,40 @@ fn settle(rows: &mut [u64], used: usize, node: Node) -> Added
     let entry = entry_of(node);
     let at = find_entry(rows, start_of(node), used, entry);
     if at < used {
-        return Added { row: Row(at as u16), table: Table { used: used, refused: false } };
+        return Added {
+            row: Row(at as u16),
+            table: Table {
+                used: used,
+                refused: false,
+            },
+        };
     }
     if rows.len() <= at {
-        return Added { row: Row::FALSE, table: Table { used: used, refused: true } };
+        return Added {
+            row: Row::FALSE,
+            table: Table {
+                used: used,
+                refused: true,
+            },
+        };
     }
     if 65535 <= at {
-        return Added { row: Row::FALSE, table: Table { used: used, refused: true } };
+        return Added {
+            row: Row::FALSE,
+            table: Table {
+                used: used,
+                refused: true,
+            },
+        };
     }
     rows[at] = entry;
-    Added { row: Row(at as u16), table: Table { used: at + 1, refused: false } }
+    Added {
+        row: Row(at as u16),
+        table: Table {
+            used: at + 1,
+            refused: false,
+        },
+    }
 }
 
 // R28 to R30: adds an operation. A table that is refused stays as it is.
@@ -94,10 +118,16 @@ pub fn add(rows: &mut [u64], table: Table, node: Node) -> Added
     ensures { λ r. ⌜ Adds (now (rows .entry)) table node r (now (rows .exit)) ⌝ }
 {
     if table.refused {
-        return Added { row: Row::FALSE, table: table };
+        return Added {
+            row: Row::FALSE,
+            table: table,
+        };
     }
     match plan_node(rows, node) {
-        Plan::Have(i) => Added { row: i, table: table },
+        Plan::Have(i) => Added {
+            row: i,
+            table: table,
+        },
         Plan::Make(n) => settle(rows, table.used, n),
     }
 }

@@ -1,0 +1,84 @@
+-- `compose_pair` meets its contract.
+use mathlib.Core.Path.{ap, _∙_}
+use native.Mathlib.Omega.{arith}
+use Rattle.rules.specs.Room.{room}
+use Rattle.compose.specs.CarryLaws.{carrying-start, composed-holds}
+use Rattle.compose.specs.Answer.{table-full}
+use borrow.Author.Needs.{needs}
+use Rattle.compose.proofs.pair.compose_pair.Statement.{statement}
+use Rattle.compose.proofs.pair.compose_pair.Tie as tie
+use Rattle.compose.proofs.pair.compose_pair.Reads as reads
+use Rattle.compose.proofs.pair.compose_pair.Lts as lts
+use Rattle.compose.proofs.carry.carry_rows.Reads as carry-rows-reads
+use Rattle.compose.proofs.carry.copy_rows.Reads as copy-rows-reads
+use Rattle.compose.proofs.pair.room_in.Reads as room-in-reads
+use Rattle.compose.proofs.pair.write_composed.Reads as write-composed-reads
+
+copy-rows-requires : tie.Need-copy-rows-requires
+copy-rows-requires c κs = record { taken = (c .before .before .before .before .before .before .pre .pair) .one; shaped = (c .before .before .before .before .before .before .pre .pair) .shaped; whole = c .before .before .before .before .before .before .pre .whole; room = omega (arith, c .before .before .before .before .before .before .pre .whole, c .before .before .before .before .before .before .pre .ready .rows-lent) }
+
+carry-rows-requires : tie.Need-carry-rows-requires
+carry-rows-requires c κs = carrying-start _ _ _ (c .before .before .before .before .before .before .before .before .before .before .before .pre .pair) _ _ _ (c .before .before .before .before .copy-rows .ensures) (omega (arith, c .before .before .before .before .before .before .before .before .before .before .before .pre .ready .numbers-lent))
+
+room-in-requires : tie.Need-room-in-requires
+room-in-requires c κs = search needs
+
+cast-t20 : tie.Need-cast-t20
+cast-t20 c = search needs
+
+same-length : tie.Need-same-length
+same-length c = search needs
+
+same-length-2 : tie.Need-same-length-2
+same-length-2 c = search needs
+
+returns : tie.Need-returns
+returns c =
+    let p = c .before .before .before .before .before .before .before .before .before .before .before .before .before .before .before .before .before .before .pre in
+    let g = c .before .before .before .before .before .before .carry-rows .ensures in
+    let rows = c .before .before .before .before .before .before .carry-rows .kept .1 .1 .1 .0 ∙ c .before .before .before .before .before .before .before .before .before .before .before .copy-rows .kept .1 .1 .1 .0 in
+    let numbers = c .before .before .before .before .before .before .carry-rows .kept .1 .1 .1 .1 .1 .0 in
+    let over = composed-holds _ _ _ (p .pair) _ _ _ g .over (c .before .if1 .taken) in
+    table-full _ _ _ _ _ (p .pair .one) (p .pair .two) (p .pair .same) (p .ready) (rw rows at over) _ (c .room-in .ensures ∙ ap room rows)
+
+write-composed-requires : tie.Need-write-composed-requires
+write-composed-requires c κs =
+    let p = c .before .before .before .before .before .before .before .before .before .before .before .before .before .before .before .before .before .before .before .before .pre in
+    let g = c .before .before .before .before .before .before .before .before .carry-rows .ensures in
+    let rows = c .before .before .before .before .before .before .before .before .carry-rows .kept .1 .1 .1 .0 ∙ c .before .before .before .before .before .before .before .before .before .before .before .before .before .copy-rows .kept .1 .1 .1 .0 in
+    let numbers = c .before .before .before .before .before .before .before .before .carry-rows .kept .1 .1 .1 .1 .1 .0 in
+    record { carrying = g; ready = rw (rows, numbers) (p .ready); kept = c .before .before .before .if1 .left }
+
+same-length-3 : tie.Need-same-length-3
+same-length-3 c = search needs
+
+same-length-4 : tie.Need-same-length-4
+same-length-4 c = search needs
+
+same-length-5 : tie.Need-same-length-5
+same-length-5 c = search needs
+
+returns-2 : tie.Need-returns-2
+returns-2 c =
+    let p = c .before .before .before .before .before .before .before .before .before .before .before .before .before .before .before .before .before .before .before .before .before .before .before .before .before .pre in
+    let g = c .before .before .before .before .before .before .before .before .before .before .before .before .before .carry-rows .ensures in
+    let rows = c .before .before .before .before .before .before .before .before .before .before .before .before .before .carry-rows .kept .1 .1 .1 .0 ∙ c .before .before .before .before .before .before .before .before .before .before .before .before .before .before .before .before .before .before .copy-rows .kept .1 .1 .1 .0 in
+    let numbers = c .before .before .before .before .before .before .before .before .before .before .before .before .before .carry-rows .kept .1 .1 .1 .1 .1 .0 in
+    rw (rows, numbers) at (c .before .before .before .before .write-composed .ensures)
+
+pub compose-pair-spec : {M : Type 1} → statement M
+compose-pair-spec =
+    tie.close
+    (tie.spec
+    copy-rows-requires
+    carry-rows-requires
+    room-in-requires
+    cast-t20
+    same-length
+    same-length-2
+    returns
+    write-composed-requires
+    same-length-3
+    same-length-4
+    same-length-5
+    returns-2)

@@ -1,0 +1,45 @@
+-- `write_composed` meets its contract: the heads are lent.
+use mathlib.Core.Path.{sym, _∙_}
+use native.Mathlib.Omega.{arith}
+use lib.Seq.{length-take-le}
+use Rattle.compose.specs.Answer.{cells-most}
+use borrow.Author.Needs.{needs}
+use Rattle.compose.proofs.pair.write_composed.Statement.{statement}
+use Rattle.compose.proofs.pair.write_composed.Tie as tie
+use Rattle.compose.proofs.pair.write_composed.Reads as reads
+use Rattle.compose.proofs.pair.write_composed.Lts as lts
+use Rattle.base.proofs.shape.Shape.cells.Reads as cells-reads
+use Rattle.compose.proofs.pair.write_moved.Reads as write-moved-reads
+
+cells-requires : tie.Need-cells-requires
+cells-requires c κs = search needs
+
+array-borrow-prefix-heads : tie.Need-array-borrow-prefix-heads
+array-borrow-prefix-heads c = omega (arith, cells-most _ _ _ _ _ _ (c .before .before .before .before .before .before .before .pre), c .before .cells .ensures)
+
+slice-aggregate-write-moved : tie.Need-slice-aggregate-write-moved
+slice-aggregate-write-moved c = sym (length-take-le (c .before .before .cells .result) _ (omega (arith, cells-most _ _ _ _ _ _ (c .before .before .before .before .before .before .before .before .pre), c .before .before .cells .ensures)))
+
+write-moved-requires : tie.Need-write-moved-requires
+write-moved-requires c κs = (c .before .before .before .before .before .before .before .before .before .pre, length-take-le (c .before .before .before .cells .result) _ (omega (arith, cells-most _ _ _ _ _ _ (c .before .before .before .before .before .before .before .before .before .pre), c .before .before .before .cells .ensures)) ∙ c .before .before .before .cells .ensures)
+
+same-length : tie.Need-same-length
+same-length c = search needs
+
+same-length-2 : tie.Need-same-length-2
+same-length-2 c = search needs
+
+returns : tie.Need-returns
+returns c = search needs
+
+pub write-composed-spec : {M : Type 1} → statement M
+write-composed-spec =
+    tie.close
+    (tie.spec
+    cells-requires
+    array-borrow-prefix-heads
+    slice-aggregate-write-moved
+    write-moved-requires
+    same-length
+    same-length-2
+    returns)
