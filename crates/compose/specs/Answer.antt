@@ -5,18 +5,16 @@ use mathlib.Core.Bool.{Bool, true, false, not}
 use mathlib.Core.List.{List}
 use native.Mathlib.Omega.{arith}
 use lib.ListN.{length}
-use lib.Dec.{eqb, ltb}
+use lib.Dec.{eqb}
 use borrow.Author.Tests.{lt-ltb, le-ltb, eq-eqb, not-false}
-use Rattle.rules.specs.Verdict.{Verdict, granted, refused, _>>=_}
-use Rattle.rules.specs.Edition.{old, mostRows}
+use Rattle.rules.specs.Verdict.{Verdict, granted, refused}
+use Rattle.rules.specs.Edition.{old}
 use Rattle.rules.specs.Shape.{cells, shapeAt, checkShape}
 use Rattle.rules.specs.Shape as R
-use Rattle.rules.specs.Rows.{Row}
 use Rattle.rules.specs.Sets.{Heads}
 use Rattle.rules.specs.SetFile.{TransferSet, leaves, readSet}
 use Rattle.rules.specs.Room.{room}
-use Rattle.rules.specs.Operations.{setOf, composed, writeInto, finish, sameShape, compose, blame, firstFile, secondFile, neither, blamed}
-use Rattle.laws.specs.Canonical.{Proper}
+use Rattle.rules.specs.Operations.{setOf, composed, writeInto, finish, sameShape, compose, neither, blamed}
 use Rattle.laws.specs.Shape.{shape-limits}
 use Rattle.laws.specs.After.{Stands, over, after-acts}
 use Rattle.laws.specs.Files.{same-shape}
@@ -28,15 +26,14 @@ use Rattle.rows.specs.Entries.{tableIn}
 use Rattle.rows.specs.Table.{Stored}
 use Rattle.rows.specs.Adding.{stored-length}
 use Rattle.rows.specs.declared.table.Table.{Table}
-use Rattle.writer.specs.Contracts.{Writes, Tabled, lengthOf}
+use Rattle.writer.specs.Contracts.{Writes, Tabled}
 use Rattle.writer.specs.declared.Written.{Written}
 use Rattle.writer.specs.declared.Written.the-variants as W
 use Rattle.sets.specs.Spelt.{setIn, rowsIn, Taken, spelt-shape, spelt-length, taken-read, taken-proper}
-use Rattle.compose.specs.declared.Composed.{Composed}
 use Rattle.compose.specs.declared.Composed.the-variants.{Length, First, Second, Refused}
-use Rattle.compose.specs.Carrying.{Copied, Pair, Carrying, Moving, newHeads}
-use Rattle.compose.specs.CarryLaws.{standsX, standsY, carrying-start, composed-holds, composed-few, heads-moved}
-use Rattle.compose.specs.Contract.{answer, Composes, Ready, Pairs, Finished}
+use Rattle.carry.specs.Carrying.{Pair, Moving, newHeads}
+use Rattle.carry.specs.CarryLaws.{standsX, standsY, composed-holds, composed-few, heads-moved}
+use Rattle.compose.specs.Contract.{answer, Composes, Ready, Finished}
 
 -- R40: two accepted files whose shapes are found to be the same.
 pub paired : (first second : List ℕ) → Taken first → Taken second → (s t : Shape) → shapeOf s ≡ shapeAt old first

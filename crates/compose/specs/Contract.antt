@@ -6,7 +6,6 @@ use mathlib.Core.List.{List}
 use lib.ListN.{length}
 use Rattle.rules.specs.Verdict.{Verdict, granted, refused}
 use Rattle.rules.specs.Edition.{old}
-use Rattle.rules.specs.SetFile.{TransferSet}
 use Rattle.rules.specs.Operations.{compose, outputAfter, Blamed, firstFile, secondFile, neither, blamed}
 use Rattle.base.specs.Answers.{refusedBy}
 use Rattle.base.specs.Refusals.{refusalOf, refusal-back}
@@ -16,7 +15,7 @@ use Rattle.writer.specs.Contracts.{lengthOf}
 use Rattle.sets.specs.Spelt.{setIn, rowsIn}
 use Rattle.compose.specs.declared.Composed.{Composed}
 use Rattle.compose.specs.declared.Composed.the-variants.{Length, First, Second, Refused}
-use Rattle.compose.specs.Carrying.{Pair, Carrying}
+use Rattle.carry.specs.Carrying.{Pair, Carrying}
 
 -- R51: the answer of the rules where so many rows and numbers, and that output, are lent.
 abbrev pub answer : List ℕ → List ℕ → ℕ → ℕ → List ℕ → Verdict (List ℕ)

@@ -1,6 +1,3 @@
--- Rewriting one set onto another, and what composing answers.
-pub mod Carrying
-pub mod CarryLaws
-pub mod Copying
+-- What composing answers.
 pub mod Contract
 pub mod Answer

@@ -1,5 +1,4 @@
 // Composes two set files (R34, R40, R51, R56).
-pub mod carry;
 pub mod pair;
 
 use crate::pair::compose_accepted;

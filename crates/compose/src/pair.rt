@@ -1,10 +1,10 @@
 // Composes two accepted files (R40, R54, R56).
-use crate::carry::carry_rows;
-use crate::carry::copy_rows;
-use crate::carry::move_heads;
 use base::bytes::word;
 use base::refusal::Refusal;
 use base::shape::Shape;
+use carry::carry_rows;
+use carry::copy_rows;
+use carry::move_heads;
 use program::header::shape_at;
 use rows::table::Table;
 use writer::Written;

@@ -2,7 +2,7 @@
 use Prim.Native.Nat.{ℕ, zero, suc, _+_, _-_, _/_, _%_, _≤_, _<_, min, max}
 use mathlib.Core.Path.{_≡_, refl, ap, sym, _∙_}
 use mathlib.Core.Bool.{Bool, true, false, cond, or-true}
-use mathlib.Core.List.{List, [], _∷_, _++_, map, map-append}
+use mathlib.Core.List.{List, [], _∷_, map, map-append}
 use native.Mathlib.Omega.{arith}
 use native.Mathlib.Decide.{decLt}
 use native.Mathlib.Numerals.{add-one}
@@ -10,9 +10,9 @@ use lib.ListN.{length, getD, take, set, length-append, length-map, length-set, L
 use lib.Seq.{ext-getD, length-take-le, getD-take, take-suc-set, getD-set-same, getD-set-other}
 use lib.Dec.{eqb}
 use borrow.Author.Tests.{eq-eqb}
-use Rattle.rules.specs.Lists.{elem, seek, orElse}
+use Rattle.rules.specs.Lists.{elem, seek}
 use Rattle.rules.specs.Room.{room}
-use Rattle.rules.specs.Rows.{Row, leaf, inv, bin, rowAt, Plan, have, make, plan, planNot, planBin, absorbing, neutral, settle, insert, find, add, same}
+use Rattle.rules.specs.Rows.{Row, leaf, inv, bin, rowAt, have, make, plan, planNot, planBin, absorbing, neutral, settle, find, add, same}
 use Rattle.laws.specs.Canonical.{Below, Canonical}
 use Rattle.laws.specs.Rows.{Inserts, stood, fresh, inserts}
 use Rattle.laws.specs.Rule.{Ready, ready-below, Right, below-more, plan-kept, plan-right, canonical-below}

@@ -6,7 +6,7 @@ use mathlib.Core.List.{List, map}
 use native.Mathlib.Omega.{arith}
 use lib.ListN.{take}
 use lib.Dec.{eqb}
-use borrow.Author.Tests.{eq-eqb, ne-eqb, eqb-true, eqb-false}
+use borrow.Author.Tests.{eq-eqb, ne-eqb}
 use Rattle.rules.specs.Rows.{Row, leaf, inv, bin, kind, left, right, same, Plan, have, make}
 use Rattle.laws.specs.Rows.{same-true, same-refl}
 use Rattle.rows.specs.declared.node.Node.{Node}

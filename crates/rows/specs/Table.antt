@@ -4,9 +4,8 @@ use mathlib.Core.Path.{_≡_}
 use mathlib.Core.Bool.{true, false}
 use mathlib.Core.List.{List}
 use lib.ListN.{length, getD}
-use Rattle.rules.specs.Edition.{mostRows}
 use Rattle.rules.specs.Room.{room}
-use Rattle.rules.specs.Rows.{Row, leaf, inv, bin, Plan, make, plan, settle, add}
+use Rattle.rules.specs.Rows.{Row, leaf, inv, bin, make, plan, settle, add}
 use Rattle.rules.specs.Rows as R
 use Rattle.laws.specs.Canonical.{Below, Canonical}
 use Rattle.laws.specs.Rule.{Ready}

@@ -2,7 +2,7 @@
 use base::kinds::Row;
 ghost use mathlib.Core.Path.{_≡_};
 ghost use Prim.Native.Nat.{_<_};
-ghost use lib.ListN.{length, getD, set};
+ghost use lib.ListN.{getD};
 ghost use Rattle.rules.specs.Rows.{same};
 ghost use Rattle.rows.specs.Entries.{nodeRow, entryWith, entry, rowOfEntry, Narrow};
 

@@ -10,7 +10,7 @@ use Rattle.rules.specs.Lists.{numberAt}
 use Rattle.rules.specs.Edition.{old, countAt, mostRows}
 use Rattle.rules.specs.Shape.{Shape}
 use Rattle.rules.specs.Rows.{Row, leaf, inv, bin, rowAt, make, plan}
-use Rattle.rules.specs.SetFile.{TransferSet, leaves, rowPlace, spelt, fits, named, checkRows, readSet}
+use Rattle.rules.specs.SetFile.{leaves, rowPlace, fits, named, checkRows, readSet}
 use Rattle.laws.specs.Canonical.{Below}
 use Rattle.sets.specs.Spelt.{Sized, rowsIn, setWith}
 

@@ -7,8 +7,8 @@ use native.Mathlib.Omega.{arith}
 use native.Mathlib.Decide.{decLt}
 use lib.ListN.{length, getD, length-append, length-map, List·getD-append}
 use lib.Seq.{getD-drop, drop-at}
-use lib.Dec.{ltb, eqb}
-use borrow.Author.Tests.{lt-ltb, le-ltb, eq-eqb, ne-eqb}
+use lib.Dec.{ltb}
+use borrow.Author.Tests.{lt-ltb, le-ltb, ne-eqb}
 use Rattle.rules.specs.Verdict.{granted}
 use Rattle.rules.specs.Edition.{old, countAt, headerEnd, mostRows}
 use Rattle.rules.specs.Lists.{numberAt, from}
@@ -16,6 +16,8 @@ use Rattle.rules.specs.Shape.{Shape, cells, shapeAt}
 use Rattle.rules.specs.Rows.{Row, leaf, inv, bin, base, rowAt}
 use Rattle.rules.specs.SetFile.{TransferSet, leaves, rowPlace, rowOf, rowIn, headAt, spelt, readSet}
 use Rattle.laws.specs.Lists.{getD-map-from, length-from}
+use Rattle.base.specs.Answers.{shapeOf}
+use Rattle.base.specs.declared.shape.Shape as B
 use Rattle.laws.specs.Rows.{length-base, base-at}
 use Rattle.laws.specs.Canonical.{Canonical, Proper}
 use Rattle.laws.specs.Shape.{header-granted}
@@ -119,6 +121,13 @@ setWith file sh = spelt old file sh (rowsIn file)
 
 abbrev pub setIn : List ℕ → TransferSet
 setIn file = setWith file (shapeAt old file)
+
+-- The number of rows, from the count of cells and the count in the file.
+pub total-is : (file : List ℕ) (shape : B.Shape) (C k : ℕ) → shapeOf shape ≡ shapeAt old file → C ≡ cells (shapeOf shape)
+    → k ≡ rowsIn file → 2 + C + k ≡ length (setIn file .tab)
+total-is file shape C k p c q =
+    let z : C ≡ cells (shapeAt old file) = c ∙ ap cells p in
+    omega (arith, spelt-length file (shapeAt old file) (rowsIn file))
 
 -- R49: the file is accepted.
 abbrev pub Taken : List ℕ → Type 0

@@ -1,23 +1,16 @@
-// Checks a set file, and evaluates it (R27, R31, R41 to R44, R49).
+// Checks a set file, and reads its parts (R41 to R44, R49).
 pub mod check;
 pub mod fit;
 pub mod naming;
 pub mod read;
-pub mod values;
 
 use crate::check::check_rest;
-use crate::values::Evaluated;
-use crate::values::evaluate_accepted;
-use base::work::clear_bytes;
 use program::Checked;
 use program::header::Headed;
 use program::header::read_header;
 ghost use mathlib.Core.Path.{_≡_};
-ghost use lib.ListN.{length};
-ghost use Rattle.rules.specs.Operations.{workAfter};
 ghost use Rattle.program.specs.Contracts.{checkedVerdict};
 ghost use Rattle.sets.specs.Contracts.{setVerdict};
-ghost use Rattle.sets.specs.Evaluate.{Evaluates};
 
 // R41 to R44, R49: whether a file is the file of a set. The header (1, 2, 3); the count (3); the length (1, 4); then, each 13:
 // heads, rows in order, the lowest row that nothing names.
@@ -28,25 +21,4 @@ pub fn check_set(file: &[u8]) -> Checked
         Headed::With(shape) => check_rest(file, shape),
         Headed::Refused(x) => Checked::Refused(x),
     }
-}
-
-// R51: evaluates a set file. The file is checked first.
-fn evaluate_checked(file: &[u8], storage: &mut [u8], values: &mut [u8]) -> Evaluated
-    ensures { λ r. ⌜ Evaluates (now (file .entry)) (now (storage .entry)) (length (now (values .entry))) r (now (storage .exit)) ⌝ }
-{
-    match check_set(file) {
-        Checked::Granted => evaluate_accepted(file, storage, values),
-        Checked::Refused(x) => Evaluated::Refused(x),
-    }
-}
-
-// R31, R51, R52, R57: evaluates a set file on a storage: every cell gets the value of its head. The file is checked first (1, 2, 3,
-// 4, 13), then the storage (14), then the values lent (10). A refusal leaves the storage as it came; the values are zero after.
-pub fn evaluate(file: &[u8], storage: &mut [u8], values: &mut [u8]) -> Evaluated
-    ensures { λ r. ⌜ Evaluates (now (file .entry)) (now (storage .entry)) (length (now (values .entry))) r (now (storage .exit)) ⌝ }
-    ensures { λ _. ⌜ now (values .exit) ≡ workAfter (now (values .entry)) ⌝ }
-{
-    let r = evaluate_checked(file, storage, values);
-    clear_bytes(values);
-    r
 }

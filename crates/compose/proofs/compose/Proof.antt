@@ -4,11 +4,6 @@ use lib.ListN.{replicate}
 use borrow.Author.Needs.{needs}
 use Rattle.compose.proofs.compose.Statement.{statement}
 use Rattle.compose.proofs.compose.Tie as tie
-use Rattle.compose.proofs.compose.Reads as reads
-use Rattle.compose.proofs.compose.Lts as lts
-use Rattle.base.proofs.work.clear_numbers.Reads as clear-numbers-reads
-use Rattle.base.proofs.work.clear_rows.Reads as clear-rows-reads
-use Rattle.compose.proofs.compose_checked.Reads as compose-checked-reads
 
 compose-checked-requires : tie.Need-compose-checked-requires
 compose-checked-requires c κs = search needs

@@ -3,9 +3,6 @@ use Rattle.compose.specs.Answer.{composes-length, composes-refused}
 use borrow.Author.Needs.{needs}
 use Rattle.compose.proofs.compose_both.Statement.{statement}
 use Rattle.compose.proofs.compose_both.Tie as tie
-use Rattle.compose.proofs.compose_both.Reads as reads
-use Rattle.compose.proofs.compose_both.Lts as lts
-use Rattle.compose.proofs.pair.compose_accepted.Reads as compose-accepted-reads
 
 compose-accepted-requires : tie.Need-compose-accepted-requires
 compose-accepted-requires c κs = search needs

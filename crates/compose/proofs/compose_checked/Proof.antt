@@ -5,10 +5,6 @@ use Rattle.compose.specs.Answer.{first-refused, second-refused}
 use borrow.Author.Needs.{needs}
 use Rattle.compose.proofs.compose_checked.Statement.{statement}
 use Rattle.compose.proofs.compose_checked.Tie as tie
-use Rattle.compose.proofs.compose_checked.Reads as reads
-use Rattle.compose.proofs.compose_checked.Lts as lts
-use Rattle.compose.proofs.compose_both.Reads as compose-both-reads
-use Rattle.sets.proofs.check_set.Reads as check-set-reads
 
 check-set-requires : tie.Need-check-set-requires
 check-set-requires c κs = search needs

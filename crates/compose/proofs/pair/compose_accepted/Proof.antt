@@ -1,18 +1,11 @@
 -- `compose_accepted` meets its contract: shapes, then room.
 use native.Mathlib.Omega.{arith}
 use Rattle.sets.specs.Spelt.{taken-header}
-use Rattle.sets.specs.Evaluate.{total-is}
+use Rattle.sets.specs.Spelt.{total-is}
 use Rattle.compose.specs.Answer.{shapes-differ, paired, rows-short, numbers-short}
 use borrow.Author.Needs.{needs}
 use Rattle.compose.proofs.pair.compose_accepted.Statement.{statement}
 use Rattle.compose.proofs.pair.compose_accepted.Tie as tie
-use Rattle.compose.proofs.pair.compose_accepted.Reads as reads
-use Rattle.compose.proofs.pair.compose_accepted.Lts as lts
-use Rattle.base.proofs.bytes.word.Reads as word-reads
-use Rattle.base.proofs.shape.Shape.cells.Reads as cells-reads
-use Rattle.compose.proofs.pair.compose_pair.Reads as compose-pair-reads
-use Rattle.compose.proofs.pair.same_shape.Reads as same-shape-reads
-use Rattle.program.proofs.header.shape_at.Reads as shape-at-reads
 
 shape-at-requires : tie.Need-shape-at-requires
 shape-at-requires c κs = taken-header _ (c .before .before .before .before .before .pre .0)

@@ -2,17 +2,11 @@
 use mathlib.Core.Path.{ap, _∙_}
 use native.Mathlib.Omega.{arith}
 use Rattle.rules.specs.Room.{room}
-use Rattle.compose.specs.CarryLaws.{carrying-start, composed-holds}
+use Rattle.carry.specs.CarryLaws.{carrying-start, composed-holds}
 use Rattle.compose.specs.Answer.{table-full}
 use borrow.Author.Needs.{needs}
 use Rattle.compose.proofs.pair.compose_pair.Statement.{statement}
 use Rattle.compose.proofs.pair.compose_pair.Tie as tie
-use Rattle.compose.proofs.pair.compose_pair.Reads as reads
-use Rattle.compose.proofs.pair.compose_pair.Lts as lts
-use Rattle.compose.proofs.carry.carry_rows.Reads as carry-rows-reads
-use Rattle.compose.proofs.carry.copy_rows.Reads as copy-rows-reads
-use Rattle.compose.proofs.pair.room_in.Reads as room-in-reads
-use Rattle.compose.proofs.pair.write_composed.Reads as write-composed-reads
 
 copy-rows-requires : tie.Need-copy-rows-requires
 copy-rows-requires c κs = record { taken = (c .before .before .before .before .before .before .pre .pair) .one; shaped = (c .before .before .before .before .before .before .pre .pair) .shaped; whole = c .before .before .before .before .before .before .pre .whole; room = omega (arith, c .before .before .before .before .before .before .pre .whole, c .before .before .before .before .before .before .pre .ready .rows-lent) }

@@ -2,8 +2,6 @@
 use borrow.Author.Tests.{eq-eqb, ne-eqb}
 use Rattle.compose.proofs.pair.same_shape.Statement.{statement}
 use Rattle.compose.proofs.pair.same_shape.Tie as tie
-use Rattle.compose.proofs.pair.same_shape.Reads as reads
-use Rattle.compose.proofs.pair.same_shape.Lts as lts
 
 returns : tie.Need-returns
 returns c = rw (eq-eqb _ _ (c .before .before .before .before .before .before .before .before .if1 .taken), eq-eqb _ _ (c .before .before .before .before .before .if2 .taken), eq-eqb _ _ (c .before .before .if3 .taken))

@@ -6,10 +6,6 @@ use Rattle.compose.specs.Answer.{cells-most}
 use borrow.Author.Needs.{needs}
 use Rattle.compose.proofs.pair.write_composed.Statement.{statement}
 use Rattle.compose.proofs.pair.write_composed.Tie as tie
-use Rattle.compose.proofs.pair.write_composed.Reads as reads
-use Rattle.compose.proofs.pair.write_composed.Lts as lts
-use Rattle.base.proofs.shape.Shape.cells.Reads as cells-reads
-use Rattle.compose.proofs.pair.write_moved.Reads as write-moved-reads
 
 cells-requires : tie.Need-cells-requires
 cells-requires c κs = search needs

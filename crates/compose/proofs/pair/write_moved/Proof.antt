@@ -3,10 +3,6 @@ use Rattle.compose.specs.Answer.{moving, tabled, written-is}
 use borrow.Author.Needs.{needs}
 use Rattle.compose.proofs.pair.write_moved.Statement.{statement}
 use Rattle.compose.proofs.pair.write_moved.Tie as tie
-use Rattle.compose.proofs.pair.write_moved.Reads as reads
-use Rattle.compose.proofs.pair.write_moved.Lts as lts
-use Rattle.compose.proofs.carry.move_heads.Reads as move-heads-reads
-use Rattle.writer.proofs.write_table.Reads as write-table-reads
 
 move-heads-requires : tie.Need-move-heads-requires
 move-heads-requires c κs = moving _ _ _ _ _ _ (c .before .before .before .before .before .before .before .before .pre .0) _ (c .before .before .before .before .before .before .before .before .pre .1)

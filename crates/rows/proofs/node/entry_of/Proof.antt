@@ -1,11 +1,7 @@
 use Rattle.rows.specs.Entries.{entry-made}
-use native.Mathlib.Omega.{arith}
 use borrow.Author.Needs.{needs}
 use Rattle.rows.proofs.node.entry_of.Statement.{statement}
 use Rattle.rows.proofs.node.entry_of.Tie as tie
-use Rattle.rows.proofs.node.entry_of.Reads as reads
-use Rattle.rows.proofs.node.entry_of.Lts as lts
-use Rattle.rows.proofs.node.entry_with.Reads as entry-with-reads
 
 enum-known-node : tie.Need-enum-known-node
 enum-known-node c = search needs

@@ -2,8 +2,6 @@ use Rattle.rows.specs.Entries.{entryWith}
 use borrow.Author.Needs.{needs}
 use Rattle.rows.proofs.node.entry_with.Statement.{statement}
 use Rattle.rows.proofs.node.entry_with.Tie as tie
-use Rattle.rows.proofs.node.entry_with.Reads as reads
-use Rattle.rows.proofs.node.entry_with.Lts as lts
 
 -- src/node.rt:21:5
 mul-result : tie.Need-mul-result

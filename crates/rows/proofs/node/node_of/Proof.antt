@@ -1,11 +1,8 @@
 use mathlib.Core.Path.{refl}
 use Rattle.rows.specs.Entries.{entry-kind, entry-rest}
-use native.Mathlib.Omega.{arith}
 use borrow.Author.Needs.{needs}
 use Rattle.rows.proofs.node.node_of.Statement.{statement}
 use Rattle.rows.proofs.node.node_of.Tie as tie
-use Rattle.rows.proofs.node.node_of.Reads as reads
-use Rattle.rows.proofs.node.node_of.Lts as lts
 
 cast-t6 : tie.Need-cast-t6
 cast-t6 c = search needs

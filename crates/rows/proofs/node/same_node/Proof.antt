@@ -1,11 +1,7 @@
 use Rattle.rows.specs.Entries.{entry-same}
-use native.Mathlib.Omega.{arith}
 use borrow.Author.Needs.{needs}
 use Rattle.rows.proofs.node.same_node.Statement.{statement}
 use Rattle.rows.proofs.node.same_node.Tie as tie
-use Rattle.rows.proofs.node.same_node.Reads as reads
-use Rattle.rows.proofs.node.same_node.Lts as lts
-use Rattle.rows.proofs.node.entry_of.Reads as entry-of-reads
 
 entry-of-requires : tie.Need-entry-of-requires
 entry-of-requires c κs = search needs

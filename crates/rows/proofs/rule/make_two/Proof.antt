@@ -1,10 +1,6 @@
 use Rattle.rows.specs.Plans.{rising, falling}
-use native.Mathlib.Omega.{arith}
-use borrow.Author.Needs.{needs}
 use Rattle.rows.proofs.rule.make_two.Statement.{statement}
 use Rattle.rows.proofs.rule.make_two.Tie as tie
-use Rattle.rows.proofs.rule.make_two.Reads as reads
-use Rattle.rows.proofs.rule.make_two.Lts as lts
 
 returns : tie.Need-returns
 returns c = rising _ _ _ (c .if1 .taken)

@@ -1,12 +1,8 @@
 use Rattle.rows.specs.Plans.{neutral-other}
 use mathlib.Core.Path.{_∙_}
-use native.Mathlib.Omega.{arith}
 use borrow.Author.Needs.{needs}
 use Rattle.rows.proofs.rule.neutral.Statement.{statement}
 use Rattle.rows.proofs.rule.neutral.Tie as tie
-use Rattle.rows.proofs.rule.neutral.Reads as reads
-use Rattle.rows.proofs.rule.neutral.Lts as lts
-use Rattle.rows.proofs.rule.absorbing.Reads as absorbing-reads
 
 absorbing-requires : tie.Need-absorbing-requires
 absorbing-requires c κs = search needs

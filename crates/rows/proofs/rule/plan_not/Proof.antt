@@ -1,12 +1,9 @@
 use mathlib.Core.Path.{ap}
 use Rattle.rows.specs.Entries.{nodeRow}
 use Rattle.rows.specs.Plans.{not-zero, not-one, not-leaf, not-not, not-bin}
-use native.Mathlib.Omega.{arith}
 use borrow.Author.Needs.{needs}
 use Rattle.rows.proofs.rule.plan_not.Statement.{statement}
 use Rattle.rows.proofs.rule.plan_not.Tie as tie
-use Rattle.rows.proofs.rule.plan_not.Reads as reads
-use Rattle.rows.proofs.rule.plan_not.Lts as lts
 
 returns : tie.Need-returns
 returns c = not-zero _ _ (c .if1 .taken)

@@ -1,14 +1,8 @@
 use Rattle.rules.specs.Rows.{planBin}
 use borrow.Author.Tests.{eq-eqb, ne-eqb}
-use native.Mathlib.Omega.{arith}
 use borrow.Author.Needs.{needs}
 use Rattle.rows.proofs.rule.plan_two.Statement.{statement}
 use Rattle.rows.proofs.rule.plan_two.Tie as tie
-use Rattle.rows.proofs.rule.plan_two.Reads as reads
-use Rattle.rows.proofs.rule.plan_two.Lts as lts
-use Rattle.rows.proofs.rule.absorbing.Reads as absorbing-reads
-use Rattle.rows.proofs.rule.make_two.Reads as make-two-reads
-use Rattle.rows.proofs.rule.neutral.Reads as neutral-reads
 
 absorbing-requires : tie.Need-absorbing-requires
 absorbing-requires c κs = search needs

@@ -1,15 +1,10 @@
 use denote.Ref.{now}
-use native.Mathlib.Omega.{arith}
 use mathlib.Core.Path.{refl}
 use Rattle.rows.specs.Entries.{nodeRow}
 use Rattle.rows.specs.Adding.{below-slice, add-idle, add-have, add-make, make-addable}
 use borrow.Author.Needs.{needs}
 use Rattle.rows.proofs.table.add.Statement.{statement}
 use Rattle.rows.proofs.table.add.Tie as tie
-use Rattle.rows.proofs.table.add.Reads as reads
-use Rattle.rows.proofs.table.add.Lts as lts
-use Rattle.rows.proofs.table.plan_node.Reads as plan-node-reads
-use Rattle.rows.proofs.table.settle.Reads as settle-reads
 
 returns : tie.Need-returns
 returns c = add-idle _ _ (c .before .before .args .node) (c .if1 .taken) _ refl

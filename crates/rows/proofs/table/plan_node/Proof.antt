@@ -1,15 +1,8 @@
 use denote.Ref.{now}
-use mathlib.Core.Path.{_∙_}
-use native.Mathlib.Omega.{arith}
 use Rattle.rows.specs.Adding.{below-not, plan-of-not, plan-of-two}
 use borrow.Author.Needs.{needs}
 use Rattle.rows.proofs.table.plan_node.Statement.{statement}
 use Rattle.rows.proofs.table.plan_node.Tie as tie
-use Rattle.rows.proofs.table.plan_node.Reads as reads
-use Rattle.rows.proofs.table.plan_node.Lts as lts
-use Rattle.rows.proofs.node.node_at.Reads as node-at-reads
-use Rattle.rows.proofs.rule.plan_not.Reads as plan-not-reads
-use Rattle.rows.proofs.rule.plan_two.Reads as plan-two-reads
 
 enum-known-node : tie.Need-enum-known-node
 enum-known-node c = search needs

@@ -4,11 +4,6 @@ use Rattle.rows.specs.Adding.{start-used, settle-stood, settle-full, set
 use borrow.Author.Needs.{needs}
 use Rattle.rows.proofs.table.settle.Statement.{statement}
 use Rattle.rows.proofs.table.settle.Tie as tie
-use Rattle.rows.proofs.table.settle.Reads as reads
-use Rattle.rows.proofs.table.settle.Lts as lts
-use Rattle.rows.proofs.node.entry_of.Reads as entry-of-reads
-use Rattle.rows.proofs.table.find_entry.Reads as find-entry-reads
-use Rattle.rows.proofs.table.start_of.Reads as start-of-reads
 
 entry-of-requires : tie.Need-entry-of-requires
 entry-of-requires c κs = search needs

@@ -2,8 +2,6 @@ use Rattle.rows.specs.Adding.{start-not, start-two}
 use borrow.Author.Needs.{needs}
 use Rattle.rows.proofs.table.start_of.Statement.{statement}
 use Rattle.rows.proofs.table.start_of.Tie as tie
-use Rattle.rows.proofs.table.start_of.Reads as reads
-use Rattle.rows.proofs.table.start_of.Lts as lts
 
 enum-told : tie.Need-enum-told
 enum-told c = search needs

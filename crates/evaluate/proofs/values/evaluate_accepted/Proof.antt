@@ -1,0 +1,56 @@
+-- `evaluate_accepted` meets its contract.
+use mathlib.Core.Path.{ap, _∙_}
+use Rattle.rules.specs.Shape.{cells}
+use Rattle.evaluate.specs.Evaluate.{evaluable, evaluate-unfit}
+use borrow.Author.Needs.{needs}
+use Rattle.evaluate.proofs.values.evaluate_accepted.Statement.{statement}
+use Rattle.evaluate.proofs.values.evaluate_accepted.Tie as tie
+
+shape-at-requires : tie.Need-shape-at-requires
+shape-at-requires c κs = search needs
+
+cells-requires : tie.Need-cells-requires
+cells-requires c κs = search needs
+
+check-cells-requires : tie.Need-check-cells-requires
+check-cells-requires c κs = search needs
+
+enum-told : tie.Need-enum-told
+enum-told c = search needs
+
+evaluate-on-requires : tie.Need-evaluate-on-requires
+evaluate-on-requires c κs = evaluable _ _ 0 (c .before .before .before .before .before .before .before .before .before .before .before .pre) _ (c .before .before .before .before .before .cells .ensures ∙ ap cells (c .before .before .before .before .before .before .shape-at .ensures)) (rw (c .before .before .enum-told .given .1) at (c .before .before .before .before .check-cells .ensures))
+
+enum-known-x : tie.Need-enum-known-x
+enum-known-x c = search needs
+
+same-length : tie.Need-same-length
+same-length c = search needs
+
+same-length-2 : tie.Need-same-length-2
+same-length-2 c = search needs
+
+returns : tie.Need-returns
+returns c = search needs
+
+same-length-3 : tie.Need-same-length-3
+same-length-3 c = search needs
+
+returns-2 : tie.Need-returns-2
+returns-2 c = evaluate-unfit _ _ _ (c .before .before .before .before .before .before .before .before .before .before .pre) _ (c .before .before .before .before .cells .ensures ∙ ap cells (c .before .before .before .before .before .shape-at .ensures)) _ (rw (c .before .x .given .1) at (c .before .before .before .check-cells .ensures))
+
+pub evaluate-accepted-spec : {M : Type 1} → statement M
+evaluate-accepted-spec =
+    tie.close
+    (tie.spec
+    shape-at-requires
+    cells-requires
+    check-cells-requires
+    enum-told
+    evaluate-on-requires
+    enum-known-x
+    same-length
+    same-length-2
+    returns
+    same-length-3
+    returns-2)
