@@ -5,7 +5,6 @@ use mathlib.Core.Bool.{Bool, true, false}
 use mathlib.Core.List.{List, [], _∷_, _++_}
 use native.Mathlib.Omega.{arith}
 use native.Mathlib.Decide.{decLt}
-use native.Mathlib.Nat.{add-zero}
 use lib.ListN.{length, getD, set, length-map, length-set, List·getD-map}
 use lib.Seq.{getD-set-same, getD-set-other}
 use borrow.Author.Tests.{lt-ltb, le-ltb}
@@ -17,11 +16,12 @@ use Rattle.rules.specs.Rows.{Row, leaf, inv, bin, rowAt, add}
 use Rattle.rules.specs.Sets.{Carried, carry, reaches, after}
 use Rattle.rules.specs.SetFile.{TransferSet, leaves, headAt, named}
 use Rattle.rules.specs.Operations.{composed}
+use Rattle.laws.specs.Verdict.{no-false}
 use Rattle.laws.specs.Lists.{map-ext, elem-at}
 use Rattle.laws.specs.Canonical.{Operands, Below, Canonical}
-use Rattle.laws.specs.Rule.{Ready, ready-below, canonical-ready, canonical-below}
+use Rattle.laws.specs.Rule.{Ready, canonical-ready, canonical-below}
 use Rattle.laws.specs.Reach.{needs-keeps, reaches-operands}
-use Rattle.laws.specs.After.{Stands, over, carry-size, carry-old, snoc-old, snoc-last, stages}
+use Rattle.laws.specs.After.{Stands, over, carry-size, carry-stays, snoc-old, snoc-last, stages}
 use Rattle.laws.specs.Squeeze.{ren, carry-op}
 use Rattle.laws.specs.Named.{all-reached}
 use Rattle.laws.specs.Compose.{left-carried}
@@ -39,11 +39,6 @@ use Rattle.rows.specs.declared.table.Table.{Table}
 use Rattle.rows.specs.declared.table.Added.{Added}
 use Rattle.sets.specs.Spelt.{setIn, rowsIn, Inside, sized-inside, taken-sized, speltRow, spelt-row, spelt-shape, spelt-length, spelt-head, spelt-heads, taken-proper, taken-canonical}
 use Rattle.carry.specs.Carrying.{Pair, Known, newNumber, renumbered, carried, Carrying, Moving, newHeads}
-
-no-false : false ≡ true → ⊥
-no-false e =
-    let z : _≡_ {A = ℕ} 0 1 = cc in
-    omega arith
 
 -- ---- new numbers
 
@@ -150,10 +145,8 @@ module _ (first second : List ℕ) (shape : Shape) (p : Pair first second shape)
 
   -- A leaf keeps the number that it got.
   leaf-kept : (j i : ℕ) → i < L → reaches (Y .tab) (Y .heads) i ≡ true → getD (M (L + j) .new) i 0 ≡ getD (0 ∷ 1 ∷ X .heads) i 0
-  leaf-kept zero i h q = rw add-zero (left-carried (X .tab) (X .heads) (Y .tab) (Y .heads) canonY L (omega arith) .same i h q)
-  leaf-kept (suc j) i h q =
-      let z : L + suc j ≡ suc (L + j) = omega arith in
-      ap (λ k. getD (M k .new) i 0) z ∙ carry-old add (X .tab) (X .heads) (Y .tab) (Y .heads) (L + j) i (omega arith) ∙ leaf-kept j i h q
+  leaf-kept j i h q = carry-stays add (X .tab) (X .heads) (Y .tab) (Y .heads) L i h j
+      ∙ left-carried (X .tab) (X .heads) (Y .tab) (Y .heads) canonY L (omega arith) .same i h q
 
   head-at : (i : ℕ) → 2 ≤ i → i < L → numberAt 2 first (headAt old (i - 2)) ≡ getD (0 ∷ 1 ∷ X .heads) i 0
   head-at zero h l = absurd (omega arith)
@@ -270,7 +263,7 @@ module _ (first second : List ℕ) (shape : Shape) (p : Pair first second shape)
           let k = g .holds .kept f in
           record {
             held = k .held;
-            below = rw (new-is f, ← stored-length k) (ready-below (length (M (L + j) .tab)) (new j) (new-ready j h));
+            ready = rw (new-is f, ← stored-length k) (new-ready j h);
           }
 
       module _ (x : Added) (after : List ℕ) (a : Adds rows s m x after) (size : length after ≡ length rows) where

@@ -4,6 +4,7 @@ use mathlib.Core.Path.{_≡_, refl, sym, ap, _∙_}
 use mathlib.Core.Bool.{Bool, true, false}
 use mathlib.Core.List.{List, [], _∷_, _++_, map-map}
 use native.Mathlib.Omega.{arith}
+use native.Mathlib.Nat.{add-zero, add-suc}
 use native.Mathlib.Decide.{decLt}
 use lib.ListN.{length, getD, length-append, length-map, List·getD-append, List·getD-map}
 use lib.Seq.{getD-append-seam}
@@ -105,9 +106,13 @@ module _ (put : List Row → Row → Added) (t : List Row) (x : List ℕ) (u : L
   row-old m k r false e i h = snoc-old (m .new) 0 k e i h
   row-old m k r true e i h = snoc-old (m .new) (carryOne put x m r .row) k e i h
 
-  pub carry-old : (k i : ℕ) → i < k → getD (carry put t x u y (suc k) .new) i 0 ≡ getD (carry put t x u y k .new) i 0
+  carry-old : (k i : ℕ) → i < k → getD (carry put t x u y (suc k) .new) i 0 ≡ getD (carry put t x u y k .new) i 0
   unfolding carry
   carry-old k i h = row-old (carry put t x u y k) k (rowAt u k) (reaches u y k) (carry-size k) i h
+
+  pub carry-stays : (k i : ℕ) → i < k → (d : ℕ) → getD (carry put t x u y (k + d) .new) i 0 ≡ getD (carry put t x u y k .new) i 0
+  carry-stays k i h zero = rw add-zero
+  carry-stays k i h (suc d) = rw add-suc (carry-old (k + d) i (omega arith) ∙ carry-stays k i h d)
 
 -- The leaf's row of a canonical table is the leaf of its own number.
 pub leaf-own : {C : ℕ} {t : List Row} → Canonical C t → (k i : ℕ) → k < length t → rowAt t k ≡ leaf i → (i ≡ k) × (k < 2 + C)

@@ -1,7 +1,7 @@
 -- Laws of a table in a lent slice: its rows, and adding to it.
 use Prim.Native.Nat.{ℕ, zero, suc, _+_, _-_, _/_, _%_, _≤_, _<_, min, max}
 use mathlib.Core.Path.{_≡_, refl, ap, sym, _∙_}
-use mathlib.Core.Bool.{Bool, true, false, cond, or-true}
+use mathlib.Core.Bool.{Bool, true, false, cond}
 use mathlib.Core.List.{List, [], _∷_, map, map-append}
 use native.Mathlib.Omega.{arith}
 use native.Mathlib.Decide.{decLt}
@@ -9,15 +9,15 @@ use native.Mathlib.Numerals.{add-one}
 use lib.ListN.{length, getD, take, set, length-append, length-map, length-set, List·getD-map}
 use lib.Seq.{ext-getD, length-take-le, getD-take, take-suc-set, getD-set-same, getD-set-other}
 use lib.Dec.{eqb}
-use borrow.Author.Tests.{eq-eqb}
-use Rattle.rules.specs.Lists.{elem, seek}
+use Rattle.rules.specs.Lists.{seek}
 use Rattle.rules.specs.Room.{room}
 use Rattle.rules.specs.Rows.{Row, leaf, inv, bin, rowAt, have, make, plan, planNot, planBin, absorbing, neutral, settle, find, add, same}
 use Rattle.laws.specs.Canonical.{Below, Canonical}
 use Rattle.laws.specs.Rows.{Inserts, stood, fresh, inserts}
 use Rattle.laws.specs.Rule.{Ready, ready-below, Right, below-more, plan-kept, plan-right, canonical-below}
 use Rattle.laws.specs.Grow.{ext-length, add-extends}
-use Rattle.laws.specs.Search.{find-from, none-early}
+use Rattle.laws.specs.Verdict.{no-false}
+use Rattle.laws.specs.Search.{lastOf, last-low, find-from, none-to-last}
 use Rattle.base.specs.declared.kinds.Row as K
 use Rattle.rows.specs.declared.node.Node.{Node}
 use Rattle.rows.specs.declared.node.Node.the-variants.{Not, Two}
@@ -26,7 +26,7 @@ use Rattle.rows.specs.declared.rule.Plan.the-variants.{Have, Make}
 use Rattle.rows.specs.declared.table.Table.{Table}
 use Rattle.rows.specs.declared.table.Added.{Added}
 use Rattle.rows.specs.Entries.{nodeRow, planRow, entry, rowOfEntry, tableIn, Narrow, entry-same, entry-back}
-use Rattle.rows.specs.Table.{afterOperands, Stored, Holds, Gives, Addable, Settles, Adds}
+use Rattle.rows.specs.Table.{Stored, Holds, Gives, Addable, Settles, Adds}
 
 -- ---- the rows of a slice
 
@@ -47,12 +47,6 @@ module _ (n : Node) where
   pub below-not : (a : K.Row) (k : ℕ) → n ≡ Not a → Below k (nodeRow n) → a .0 < k
   below-not a k e h = rw e at h
 
-  pub start-not : (a : K.Row) → n ≡ Not a → a .0 + 1 ≡ afterOperands (nodeRow n)
-  start-not a e = rw e (omega arith)
-
-  pub start-two : (o : Bool) (a b : K.Row) → n ≡ Two o a b → b .0 + 1 ≡ afterOperands (nodeRow n)
-  start-two o a b e = rw e (omega arith)
-
   pub plan-of-not : (a : K.Row) (m : Node) (rows : List ℕ) → n ≡ Not a → nodeRow m ≡ rowOfEntry (getD rows (a .0) 0) → (p : P.Plan)
       → planRow p ≡ planNot (a .0) (nodeRow m) → planRow p ≡ plan (map rowOfEntry rows) (nodeRow n)
   plan-of-not a m rows e q p h = rw e (h ∙ ap (planNot (a .0)) (q ∙ sym (slice-row rows (a .0))))
@@ -63,15 +57,13 @@ module _ (n : Node) where
 
 -- ---- plans
 
--- A row that is made for operands below k has them below k.
-pub plan-below : (t : List Row) (k : ℕ) (r q : Row) → Below k r → plan t r ≡ make q → Below k q
+-- A row that is made for an operation over rows below k is one itself.
+plan-ready : (t : List Row) (k : ℕ) (r q : Row) → Ready k r → plan t r ≡ make q → Ready k q
 unfolding planBin
-plan-below t k (leaf i) q h e =
-    let z : _≡_ {A = ℕ} 0 1 = cc in
-    absurd (omega arith)
-plan-below t k (inv a) q h e = go a (rowAt t a) h e
+plan-ready t k (leaf i) q h e = absurd h
+plan-ready t k (inv a) q h e = go a (rowAt t a) h e
   where
-    go : (a : ℕ) (p : Row) → a < k → planNot a p ≡ make q → Below k q
+    go : (a : ℕ) (p : Row) → a < k → planNot a p ≡ make q → Ready k q
     go zero p h e =
         let z : _≡_ {A = ℕ} 0 1 = cc in
         absurd (omega arith)
@@ -87,17 +79,17 @@ plan-below t k (inv a) q h e = go a (rowAt t a) h e
     go (suc (suc a)) (bin o b c) h e =
         let z : inv (suc (suc a)) ≡ q = cc in
         rw (← z) h
-plan-below t k (bin o a b) q h e =
+plan-ready t k (bin o a b) q h e =
     go (eqb a (absorbing o)) (eqb b (absorbing o)) (eqb a (neutral o)) (eqb b (neutral o)) (eqb a b) e
   where
-    never : (i : ℕ) → have i ≡ make q → Below k q
+    never : (i : ℕ) → have i ≡ make q → Ready k q
     never i e =
         let z : _≡_ {A = ℕ} 0 1 = cc in
         absurd (omega arith)
 
     go : (v w x y z : Bool)
         → cond v (have a) (cond w (have b) (cond x (have b) (cond y (have a) (cond z (have a) (make (bin o (min a b) (max a b))))))) ≡ make q
-        → Below k q
+        → Ready k q
     go true w x y z e = never a e
     go false true x y z e = never b e
     go false false true y z e = never b e
@@ -108,12 +100,6 @@ plan-below t k (bin o a b) q h e =
         rw (← z) (omega (arith, h .0, h .1), omega (arith, h .0, h .1))
 
 -- ---- settling
-
--- The search starts within the used rows.
-pub start-used : (r : Row) (used start : ℕ) → start ≡ afterOperands r → Below used r → start ≤ used
-start-used (leaf i) used start e h = omega arith
-start-used (inv a) used start e h = omega arith
-start-used (bin o a b) used start e h = omega (arith, h .1)
 
 -- Every number holds a row whose operands fit.
 pub entry-narrow : (n : ℕ) → Narrow (rowOfEntry n)
@@ -134,20 +120,6 @@ seek-ext f g (suc n) i e =
     let rest : seek f n (suc i) ≡ seek g n (suc i) = seek-ext f g n (suc i) (λ k a b. e k (omega arith) (omega arith)) in
     rw (p, rest)
 
--- R30: the search may start after the larger operand.
-record Start (t : List Row) (r : Row) : Type 0 where
-  low : afterOperands r ≤ length t
-  none : (i : ℕ) → i < afterOperands r → same (rowAt t i) r ≡ false
-
-start-early : (t : List Row) (r : Row) → Ready (length t) r → ((i : ℕ) → i < length t → Below i (rowAt t i)) → Start t r
-unfolding elem
-start-early t (leaf i) h b = absurd h
-start-early t (inv a) h b = record { low = omega arith; none = none-early t (inv a) a (length t) (rw (eq-eqb a a refl)) h b }
-start-early t (bin o a c) h b = record {
-  low = omega (arith, h .1);
-  none = none-early t (bin o a c) c (length t) (rw (eq-eqb c c refl) (or-true (eqb c a))) (h .1) b;
-}
-
 -- What a slice of rows stores, row by row.
 module _ {rows : List ℕ} {used : ℕ} {t : List Row} (s : Stored rows used t) where
   pub stored-length : length t ≡ used
@@ -160,28 +132,24 @@ module _ {rows : List ℕ} {used : ℕ} {t : List Row} (s : Stored rows used t) 
 abbrev added : ℕ → ℕ → Bool → Added
 added row used refused = record { row = record { 0 = row }; table = record { used = used; refused = refused } }
 
-no-false : false ≡ true → ⊥
-no-false e =
-    let z : _≡_ {A = ℕ} 0 1 = cc in
-    omega arith
-
 -- The search by numbers, from there on, finds the row that the rule finds.
-module _ (rows : List ℕ) (used : ℕ) (n : Node) (e start at : ℕ) (made : (e ≡ entry (nodeRow n)) × Narrow (nodeRow n))
-    (from : start ≡ afterOperands (nodeRow n)) (found : at ≡ seek (λ i. eqb (getD rows i 0) e) (used - start) start) where
+module _ (rows : List ℕ) (used : ℕ) (n : Node) (e last at : ℕ) (made : (e ≡ entry (nodeRow n)) × Narrow (nodeRow n))
+    (from : last ≡ lastOf (nodeRow n)) (found : at ≡ seek (λ i. eqb (getD rows i 0) e) (used - (last + 1)) (last + 1)) where
   abbrev q : Row
   q = nodeRow n
 
   found-row : {C : ℕ} {t : List Row} → Canonical C t → Stored rows used t → Ready (length t) q → at ≡ find t q
   found-row {t = t} w s h =
       let size = stored-length s in
-      let early = start-early t q h (canonical-below w) in
-      let same-test : (k : ℕ) → start ≤ k → k < start + (used - start) → eqb (getD rows k 0) e ≡ same (rowAt t k) q = λ k a b.
-      (let low : k < used = omega (arith, early .low) in
-      let row = stored-row s k low in
-      let own : getD rows k 0 ≡ entry (rowAt t k) = sym (s .entries k low) ∙ ap entry (sym row) in
+      let low = last-low (length t) q h in
+      let next : last + 1 ≡ suc (lastOf q) = omega arith in
+      let same-test : (k : ℕ) → last + 1 ≤ k → k < last + 1 + (used - (last + 1)) → eqb (getD rows k 0) e ≡ same (rowAt t k) q = λ k a b.
+      (let l : k < used = omega (arith, low) in
+      let row = stored-row s k l in
+      let own : getD rows k 0 ≡ entry (rowAt t k) = sym (s .entries k l) ∙ ap entry (sym row) in
       rw (own, made .0) (entry-same (rowAt t k) q (rw row (entry-narrow (getD rows k 0))) (made .1))) in
-      found ∙ seek-ext _ (λ i. same (rowAt t i) q) (used - start) start same-test
-      ∙ rw (from, ← size) (sym (find-from t q (afterOperands q) (early .low) (early .none)))
+      found ∙ seek-ext _ (λ i. same (rowAt t i) q) (used - (last + 1)) (last + 1) same-test
+      ∙ rw (next, ← size) (sym (find-from t q (suc (lastOf q)) low (none-to-last t q (length t) h (canonical-below w))))
 
   -- The row stands.
   pub settle-stood : at < used → Settles rows used n (added at used false) rows
@@ -245,9 +213,9 @@ module _ (rows : List ℕ) (used : ℕ) (n : Node) (e start at : ℕ) (made : (e
 
 -- ---- adding
 
--- Operands among the used rows are in the slice.
-pub below-slice : (rows : List ℕ) (used : ℕ) (r : Row) → used ≤ room (length rows) → Below used r → Below (length rows) r
-below-slice rows used r h b = below-more used (length rows) r (omega arith) b
+-- An operation over used rows is one over rows of the slice.
+pub ready-slice : (rows : List ℕ) (used : ℕ) (r : Row) → used ≤ room (length rows) → Ready used r → Below (length rows) r
+ready-slice rows used r h b = below-more used (length rows) r (omega arith) (ready-below used r b)
 
 -- A slice of rows plans as the table that it stores.
 stored-plan : {rows : List ℕ} {used : ℕ} {t : List Row} → Stored rows used t → (r : Row) → Below (length t) r
@@ -288,7 +256,7 @@ module _ (rows : List ℕ) (s : Table) (n : Node) where
     pub make-addable : (m : Node) → p ≡ Make m → Addable rows (s .used) (nodeRow n) → Addable rows (s .used) (nodeRow m)
     make-addable m z a = record {
       held = a .held;
-      below = plan-below (map rowOfEntry rows) (s .used) (nodeRow n) (nodeRow m) (a .below) (sym planned ∙ ap planRow z);
+      ready = plan-ready (map rowOfEntry rows) (s .used) (nodeRow n) (nodeRow m) (a .ready) (sym planned ∙ ap planRow z);
     }
 
 -- R54: an addition keeps what a state stands for, refused or not. Where it is not refused, the operation must be the one asked for.

@@ -1,24 +1,18 @@
 -- A table in a lent slice: what it holds, and what adding to it leaves.
-use Prim.Native.Nat.{ℕ, suc, _≤_, _<_}
+use Prim.Native.Nat.{ℕ, _≤_, _<_}
 use mathlib.Core.Path.{_≡_}
 use mathlib.Core.Bool.{true, false}
 use mathlib.Core.List.{List}
 use lib.ListN.{length, getD}
 use Rattle.rules.specs.Room.{room}
-use Rattle.rules.specs.Rows.{Row, leaf, inv, bin, make, plan, settle, add}
+use Rattle.rules.specs.Rows.{Row, make, plan, settle, add}
 use Rattle.rules.specs.Rows as R
-use Rattle.laws.specs.Canonical.{Below, Canonical}
+use Rattle.laws.specs.Canonical.{Canonical}
 use Rattle.laws.specs.Rule.{Ready}
 use Rattle.rows.specs.Entries.{nodeRow, entry, rowOfEntry, tableIn}
 use Rattle.rows.specs.declared.node.Node.{Node}
 use Rattle.rows.specs.declared.table.Table.{Table}
 use Rattle.rows.specs.declared.table.Added.{Added}
-
--- R30: the number after the larger operand of an operation that the rule makes.
-abbrev pub afterOperands : Row → ℕ
-afterOperands (leaf i) = 0
-afterOperands (inv a) = suc a
-afterOperands (bin o a b) = suc b
 
 -- The first `used` numbers of a slice are t's rows, each in its own number.
 pub record Stored (rows : List ℕ) (used : ℕ) (t : List Row) : Type 0 where
@@ -34,7 +28,7 @@ pub record Holds (rows : List ℕ) (s : Table) (t : List Row) : Type 0 where
 -- An operation over rows that are used.
 pub record Addable (rows : List ℕ) (used : ℕ) (r : Row) : Type 0 where
   pub held : used ≤ room (length rows)
-  pub below : Below used r
+  pub ready : Ready used r
 
 -- What an addition answers stands for the table after the rule's addition, with the row that it answers.
 pub record Gives (rows : List ℕ) (x : Added) (a : R.Added) : Type 0 where

@@ -4,6 +4,7 @@ ghost use mathlib.Core.Path.{_≡_};
 ghost use Prim.Native.Nat.{_<_};
 ghost use lib.ListN.{getD};
 ghost use Rattle.rules.specs.Rows.{same};
+ghost use Rattle.laws.specs.Search.{lastOf};
 ghost use Rattle.rows.specs.Entries.{nodeRow, entryWith, entry, rowOfEntry, Narrow};
 
 // R26: the constant or cell of that number; NOT of a row; AND (true) or OR (false) of two.
@@ -57,6 +58,17 @@ pub fn same_node(a: Node, b: Node) -> bool
     ensures { λ r. ⌜ r ≡ same (nodeRow a) (nodeRow b) ⌝ }
 {
     entry_of(a) == entry_of(b)
+}
+
+// R29: the larger operand of a row that the rule makes.
+pub fn last_operand(node: Node) -> Row
+    ensures { λ r. ⌜ r .0 ≡ lastOf (nodeRow node) ⌝ }
+{
+    match node {
+        Node::Leaf(_) => Row::FALSE,
+        Node::Not(a) => a,
+        Node::Two(_, _, b) => b,
+    }
 }
 
 // R26: the row of that number in a lent slice.

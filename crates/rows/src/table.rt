@@ -1,6 +1,7 @@
 // The table in a lent slice: an operation is planned, and then settled by the first equal row or an append (R28 to R30, R53, R54).
 use crate::node::Node;
 use crate::node::entry_of;
+use crate::node::last_operand;
 use crate::node::node_at;
 use crate::rule::Plan;
 use crate::rule::plan_not;
@@ -16,7 +17,7 @@ ghost use Rattle.rules.specs.Lists.{seek};
 ghost use Rattle.rules.specs.Rows.{plan};
 ghost use Rattle.laws.specs.Canonical.{Below};
 ghost use Rattle.rows.specs.Entries.{nodeRow, planRow, rowOfEntry};
-ghost use Rattle.rows.specs.Table.{afterOperands, Addable, Settles, Adds};
+ghost use Rattle.rows.specs.Table.{Addable, Settles, Adds};
 
 // How many rows are used, and whether an append found none left.
 pub struct Table {
@@ -42,17 +43,6 @@ fn plan_node(rows: &[u64], node: Node) -> Plan
     }
 }
 
-// R30: where the search for an equal row starts: after the larger operand.
-fn start_of(node: Node) -> usize
-    ensures { λ r. ⌜ r ≡ afterOperands (nodeRow node) ⌝ }
-{
-    match node {
-        Node::Leaf(_) => 0,
-        Node::Not(a) => a.0 as usize + 1,
-        Node::Two(_, _, b) => b.0 as usize + 1,
-    }
-}
-
 // R30: the first of the used rows from `start` on that is held by that number; or how many are used.
 fn find_entry(rows: &[u64], start: usize, used: usize, entry: u64) -> usize
     requires { ⌜ (start ≤ used) × (used ≤ length (now rows)) ⌝ }
@@ -68,13 +58,15 @@ fn find_entry(rows: &[u64], start: usize, used: usize, entry: u64) -> usize
     i
 }
 
-// R30, R53, R54: the first equal row, or an append if there is room.
+// R30, R53, R54: the first equal row, or an append if there is room. The search starts after the larger operand, since no equal row
+// stands earlier.
 fn settle(rows: &mut [u64], used: usize, node: Node) -> Added
     requires { ⌜ Addable (now rows) used (nodeRow node) ⌝ }
     ensures { λ r. ⌜ Settles (now (rows .entry)) used node r (now (rows .exit)) ⌝ }
 {
     let entry = entry_of(node);
-    let at = find_entry(rows, start_of(node), used, entry);
+    let last = last_operand(node);
+    let at = find_entry(rows, last.0 as usize + 1, used, entry);
     if at < used {
         return Added {
             row: Row(at as u16),

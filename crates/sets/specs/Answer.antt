@@ -14,13 +14,13 @@ use Rattle.laws.specs.Verdict.{bind-granted}
 use Rattle.laws.specs.Shape.{header-granted}
 use Rattle.laws.specs.SetFile.{Accepted, read-accepted}
 use Rattle.base.specs.Answers.{shapeOf, refusedBy}
-use Rattle.base.specs.Refusals.{refusalOf, refusal-back}
 use Rattle.base.specs.declared.shape.Shape.{Shape}
 use Rattle.base.specs.declared.refusal.Refusal.{Refusal}
 use Rattle.program.specs.declared.Checked.{Checked}
-use Rattle.program.specs.declared.Checked.the-variants.{Granted, Refused}
+use Rattle.program.specs.declared.Checked.the-variants.{Granted}
 use Rattle.program.specs.declared.header.Headed.{Headed}
 use Rattle.program.specs.declared.header.Headed.the-variants as H
+use Rattle.program.specs.Check.{answerOf, answer-back}
 use Rattle.program.specs.Contracts.{checkedVerdict, headVerdict}
 use Rattle.sets.specs.Contracts.{setVerdict, restVerdict}
 use Rattle.sets.specs.Spelt.{rowsIn, setWith}
@@ -83,15 +83,6 @@ set-refused file n p = go (readSet old file)
         let x : m ≡ n = cc in
         let y : q ≡ p = cc in
         rw (x, y) refl
-
--- The answer that a verdict is.
-abbrev answerOf : Verdict (Unit {0}) → Checked
-answerOf (granted u) = Granted
-answerOf (refused n p) = Refused (refusalOf n p)
-
-answer-back : (a : Checked) → answerOf (checkedVerdict a) ≡ a
-answer-back Granted = refl
-answer-back (Refused x) = ap Refused (refusal-back x)
 
 -- R46, R47: two answers that meet the contract for the same file are the same answer.
 pub check-set-only : (file : List ℕ) (r r' : Checked) → checkedVerdict r ≡ setVerdict file → checkedVerdict r' ≡ setVerdict file

@@ -9,9 +9,10 @@ use Rattle.rules.specs.Verdict.{Verdict, granted, refuseIf, _>>=_}
 use Rattle.rules.specs.Lists.{numberAt}
 use Rattle.rules.specs.Edition.{old, countAt, mostRows}
 use Rattle.rules.specs.Shape.{Shape}
-use Rattle.rules.specs.Rows.{Row, leaf, inv, bin, rowAt, make, plan}
+use Rattle.rules.specs.Rows.{rowAt, make, plan}
 use Rattle.rules.specs.SetFile.{leaves, rowPlace, fits, named, checkRows, readSet}
 use Rattle.laws.specs.Canonical.{Below}
+use Rattle.laws.specs.Search.{lastOf}
 use Rattle.sets.specs.Spelt.{Sized, rowsIn, setWith}
 
 -- R49, R65: checking a set file is reading it, and handing nothing back.
@@ -48,12 +49,6 @@ pub record Among (file : List ℕ) (sh : Shape) (k : ℕ) : Type 0 where
 -- R43: the operation rows before row k fit.
 abbrev pub FitBefore : List ℕ → Shape → ℕ → Type 0
 FitBefore file sh k = (i : ℕ) → leaves sh ≤ i → i < k → fits (setWith file sh .tab) i ≡ true
-
--- R29: the larger operand of a row that the rule makes.
-abbrev pub lastOf : Row → ℕ
-lastOf (leaf i) = 0
-lastOf (inv a) = a
-lastOf (bin o a b) = b
 
 -- R43: row k comes after rows that fit, its operands are earlier, and the rule makes it as it stands; `last` is its larger operand.
 pub record Made (file : List ℕ) (sh : Shape) (k last : ℕ) : Type 0 where

@@ -1,15 +1,15 @@
 -- Whether a row fits: a law for each answer of the code.
 use Prim.Native.Nat.{ℕ, suc, _+_, _*_, _-_, _≤_, _<_}
 use mathlib.Core.Path.{_≡_, refl, sym, ap, _∙_}
-use mathlib.Core.Bool.{Bool, true, false, cond, not, _&&_, and-true, or-true}
+use mathlib.Core.Bool.{Bool, true, false, cond, not, _&&_, and-true}
 use mathlib.Core.List.{List}
 use native.Mathlib.Omega.{arith}
 use native.Mathlib.Decide.{decLt}
 use lib.ListN.{length, getD}
 use lib.Dec.{ltb, eqb}
-use borrow.Author.Tests.{lt-ltb, le-ltb, ltb-true, eq-eqb, ne-eqb, eqb-true, not-true, not-false}
+use borrow.Author.Tests.{lt-ltb, le-ltb, eq-eqb, ne-eqb, eqb-true, not-true, not-false}
 use Rattle.rules.specs.Edition.{old}
-use Rattle.rules.specs.Lists.{numberAt, elem}
+use Rattle.rules.specs.Lists.{numberAt}
 use Rattle.rules.specs.Shape.{Shape}
 use Rattle.rules.specs.Rows.{Row, leaf, inv, bin, rowAt, kind, left, right, same, Plan, have, make, planNot, planBin, plan, find}
 use Rattle.rules.specs.Sets.{operands}
@@ -18,10 +18,11 @@ use Rattle.laws.specs.Verdict.{both-true}
 use Rattle.laws.specs.Canonical.{Below}
 use Rattle.laws.specs.Lists.{Searching}
 use Rattle.laws.specs.Rows.{same-true, same-refl, find-first, find-at}
-use Rattle.laws.specs.Fits.{fits-true}
-use Rattle.laws.specs.Search.{none-early}
+use Rattle.laws.specs.Fits.{all-below, makes-true, fits-true}
+use Rattle.laws.specs.Rule.{made-ready}
+use Rattle.laws.specs.Search.{none-to-last}
 use Rattle.sets.specs.Spelt.{sized-inside, speltRow, row-leaf, row-bytes, spelt-row, spelt-length}
-use Rattle.sets.specs.Contracts.{Whole, Among, Made, lastOf, sameAt}
+use Rattle.sets.specs.Contracts.{Whole, Among, Made, sameAt}
 use Rattle.sets.specs.Spelt.{rowsIn, setWith}
 
 -- Tests that hold together are the same.
@@ -50,14 +51,6 @@ module _ (k : ℕ) (r : Row) where
     unfolding allBelow
     late-two h = rw (e, le-ltb a k h) refl
 
-all-below : (k : ℕ) (r : Row) → allBelow k (operands r) ≡ true → Below k r
-unfolding allBelow
-all-below k (leaf i) e = tt
-all-below k (inv a) e = ltb-true a k (both-true (ltb a k) true e .0)
-all-below k (bin o a b) e =
-    let (p, q) = both-true (ltb a k) (ltb b k && true) e in
-    (ltb-true a k p, ltb-true b k (both-true (ltb b k) true q .0))
-
 -- ---- the plan
 
 pub not-low : (k a : ℕ) (r : Row) → r ≡ inv a → Below k r → a < k
@@ -76,13 +69,6 @@ module _ (file : List ℕ) (sh : Shape) (r : Row) (p : Plan) where
 
 pub makes-made : (p : Plan) (q r : Row) (d : Bool) → p ≡ make q → d ≡ same q r → d ≡ makes p r
 makes-made p q r d e f = rw e f
-
--- A plan that is found to make a row does.
-makes-true : (p : Plan) (r : Row) → makes p r ≡ true → p ≡ make r
-makes-true (have i) r e =
-    let z : _≡_ {A = ℕ} 0 1 = cc in
-    absurd (omega arith)
-makes-true (make q) r e = ap make (same-true q r e)
 
 -- ---- equal bytes
 
@@ -155,18 +141,6 @@ made-kind t (inv a) e = omega arith
 made-kind t (bin true a b) e = omega arith
 made-kind t (bin false a b) e = omega arith
 
--- The larger operand is one, and below what all operands are below.
-last-elem : (r : Row) → 1 ≤ kind r → elem (lastOf r) (operands r) ≡ true
-unfolding elem
-last-elem (leaf i) h = absurd (omega arith)
-last-elem (inv a) h = rw (eq-eqb a a refl) refl
-last-elem (bin o a b) h = rw (eq-eqb b b refl) (or-true (eqb b a))
-
-last-low : (k : ℕ) (r : Row) → 1 ≤ kind r → Below k r → lastOf r < k
-last-low k (leaf i) h b = absurd (omega arith)
-last-low k (inv a) h b = b
-last-low k (bin o a c) h b = b .1
-
 -- A constant or cell is no operation.
 leaf-differs : (i : ℕ) (r : Row) → 1 ≤ kind r → same (leaf i) r ≡ false
 leaf-differs i r h = rw (ne-eqb 0 (kind r) (λ e. omega arith)) refl
@@ -205,8 +179,7 @@ module _ (file : List ℕ) (sh : Shape) (k last : ℕ) (d : Made file sh k last)
   early : (i : ℕ) → i < leaves sh + (suc last - leaves sh) → same (rowAt t i) (rowAt t k) ≡ false
   early i h = elim (decLt i (leaves sh)) [
     | yes l ↦ rw (at-leaf file sh i l) (leaf-differs i (rowAt t k) operation)
-    | no l ↦ none-early t (rowAt t k) last k (rw (d .larger) (last-elem (rowAt t k) operation))
-        (rw (d .larger) (last-low k (rowAt t k) operation (d .below))) below i (omega arith)
+    | no l ↦ none-to-last t (rowAt t k) k (made-ready t k (rowAt t k) (d .below) (d .made)) below i (omega (arith, d .larger))
   ]
 
   bytes : (i : ℕ) → leaves sh ≤ i → i < k

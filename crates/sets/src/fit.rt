@@ -5,6 +5,7 @@ use base::bytes::word;
 use base::kinds::Row;
 use base::shape::Shape;
 use rows::node::Node;
+use rows::node::last_operand;
 use rows::node::same_node;
 use rows::rule::Plan;
 use rows::rule::plan_not;
@@ -18,7 +19,7 @@ ghost use Rattle.rules.specs.SetFile as F;
 ghost use Rattle.laws.specs.Canonical.{Below};
 ghost use Rattle.base.specs.Answers.{shapeOf};
 ghost use Rattle.rows.specs.Entries.{nodeRow, planRow};
-ghost use Rattle.sets.specs.Contracts.{Whole, Among, FitBefore, Made, lastOf, sameAt};
+ghost use Rattle.sets.specs.Contracts.{Whole, Among, FitBefore, Made, sameAt};
 ghost use Rattle.sets.specs.Spelt.{rowsIn, setWith};
 
 // R43: whether the operands of a row are earlier than row k.
@@ -52,17 +53,6 @@ fn makes(plan: Plan, node: Node) -> bool
     match plan {
         Plan::Have(_) => false,
         Plan::Make(made) => same_node(made, node),
-    }
-}
-
-// R29: the larger operand of a row that the rule makes.
-fn last_operand(node: Node) -> Row
-    ensures { λ r. ⌜ r .0 ≡ lastOf (nodeRow node) ⌝ }
-{
-    match node {
-        Node::Leaf(_) => Row::FALSE,
-        Node::Not(a) => a,
-        Node::Two(_, _, b) => b,
     }
 }
 

@@ -1,7 +1,7 @@
 use denote.Ref.{now}
 use mathlib.Core.Path.{refl}
 use Rattle.rows.specs.Entries.{nodeRow}
-use Rattle.rows.specs.Adding.{below-slice, add-idle, add-have, add-make, make-addable}
+use Rattle.rows.specs.Adding.{ready-slice, add-idle, add-have, add-make, make-addable}
 use borrow.Author.Needs.{needs}
 use Rattle.rows.proofs.table.add.Statement.{statement}
 use Rattle.rows.proofs.table.add.Tie as tie
@@ -12,7 +12,7 @@ returns c = add-idle _ _ (c .before .before .args .node) (c .if1 .taken) _ refl
 plan-node-requires : tie.Need-plan-node-requires
 plan-node-requires c κs =
     let p = c .before .before .before .pre (c .before .if1 .left) in
-    below-slice (now (c .before .before .before .args .rows)) _ (nodeRow (c .before .before .before .args .node)) (p .held) (p .below)
+    ready-slice (now (c .before .before .before .args .rows)) _ (nodeRow (c .before .before .before .args .node)) (p .held) (p .ready)
 
 enum-known-i : tie.Need-enum-known-i
 enum-known-i c = search needs

@@ -1,6 +1,8 @@
+-- `settle` meets its contract: the row stands, there is no room for it, or it is appended.
 use native.Mathlib.Omega.{arith}
+use Rattle.laws.specs.Search.{last-low}
 use Rattle.rows.specs.Entries.{nodeRow}
-use Rattle.rows.specs.Adding.{start-used, settle-stood, settle-full, settle-append}
+use Rattle.rows.specs.Adding.{settle-stood, settle-full, settle-append}
 use borrow.Author.Needs.{needs}
 use Rattle.rows.proofs.table.settle.Statement.{statement}
 use Rattle.rows.proofs.table.settle.Tie as tie
@@ -8,34 +10,40 @@ use Rattle.rows.proofs.table.settle.Tie as tie
 entry-of-requires : tie.Need-entry-of-requires
 entry-of-requires c κs = search needs
 
-start-of-requires : tie.Need-start-of-requires
-start-of-requires c κs = search needs
+last-operand-requires : tie.Need-last-operand-requires
+last-operand-requires c κs = search needs
+
+cast-find-entry : tie.Need-cast-find-entry
+cast-find-entry c = search needs
+
+add-find-entry : tie.Need-add-find-entry
+add-find-entry c = search needs
 
 find-entry-requires : tie.Need-find-entry-requires
 find-entry-requires c κs =
-    let p = c .before .before .before .before .pre in
-    (start-used (nodeRow (c .before .before .before .before .args .node)) _ _ (c .start-of .ensures) (p .below), omega (arith, p .held))
+    let p = c .before .before .before .before .before .pre in
+    (omega (arith, last-low _ (nodeRow (c .before .before .before .before .before .args .node)) (p .ready), c .before .before .last-operand .ensures), omega (arith, p .held))
 
-cast-t10 : tie.Need-cast-t10
-cast-t10 c = search needs
+cast-t12 : tie.Need-cast-t12
+cast-t12 c = search needs
 
 same-length : tie.Need-same-length
 same-length c = search needs
 
 returns : tie.Need-returns
-returns c = settle-stood _ _ (c .before .before .before .before .before .before .args .node) _ _ _ (c .before .before .before .before .entry-of .ensures) (c .before .before .start-of .ensures) (c .before .find-entry .ensures) (c .if1 .taken)
+returns c = settle-stood _ _ (c .before .before .before .before .before .before .before .args .node) _ _ _ (c .before .before .before .before .before .entry-of .ensures) (c .before .before .before .before .last-operand .ensures) (c .before .find-entry .ensures) (c .if1 .taken)
 
 same-length-2 : tie.Need-same-length-2
 same-length-2 c = search needs
 
 returns-2 : tie.Need-returns-2
-returns-2 c = settle-full _ _ (c .before .before .before .before .before .before .before .args .node) _ _ _ (c .before .before .before .before .before .entry-of .ensures) (c .before .before .before .start-of .ensures) (c .before .before .find-entry .ensures) (c .before .if1 .left) (omega (arith, c .if2 .taken))
+returns-2 c = settle-full _ _ (c .before .before .before .before .before .before .before .before .args .node) _ _ _ (c .before .before .before .before .before .before .entry-of .ensures) (c .before .before .before .before .before .last-operand .ensures) (c .before .before .find-entry .ensures) (c .before .if1 .left) (omega (arith, c .if2 .taken))
 
 same-length-3 : tie.Need-same-length-3
 same-length-3 c = search needs
 
 returns-3 : tie.Need-returns-3
-returns-3 c = settle-full _ _ (c .before .before .before .before .before .before .before .before .args .node) _ _ _ (c .before .before .before .before .before .before .entry-of .ensures) (c .before .before .before .before .start-of .ensures) (c .before .before .before .find-entry .ensures) (c .before .before .if1 .left) (omega (arith, c .if3 .taken))
+returns-3 c = settle-full _ _ (c .before .before .before .before .before .before .before .before .before .args .node) _ _ _ (c .before .before .before .before .before .before .before .entry-of .ensures) (c .before .before .before .before .before .before .last-operand .ensures) (c .before .before .before .find-entry .ensures) (c .before .before .if1 .left) (omega (arith, c .if3 .taken))
 
 mul-rows : tie.Need-mul-rows
 mul-rows c = search needs
@@ -43,26 +51,28 @@ mul-rows c = search needs
 slice-write-rows : tie.Need-slice-write-rows
 slice-write-rows c = search needs
 
-cast-t18 : tie.Need-cast-t18
-cast-t18 c = search needs
+cast-t20 : tie.Need-cast-t20
+cast-t20 c = search needs
 
-add-t8 : tie.Need-add-t8
-add-t8 c = search needs
+add-t9 : tie.Need-add-t9
+add-t9 c = search needs
 
 same-length-4 : tie.Need-same-length-4
 same-length-4 c = search needs
 
 returns-4 : tie.Need-returns-4
-returns-4 c = settle-append _ _ (c .before .before .before .before .before .before .before .before .args .node) _ _ _ (c .before .before .before .before .before .before .entry-of .ensures) (c .before .before .before .before .start-of .ensures) (c .before .before .before .find-entry .ensures) (c .before .before .if1 .left) (omega (arith, c .before .if2 .left, c .if3 .left))
+returns-4 c = settle-append _ _ (c .before .before .before .before .before .before .before .before .before .args .node) _ _ _ (c .before .before .before .before .before .before .before .entry-of .ensures) (c .before .before .before .before .before .before .last-operand .ensures) (c .before .before .before .find-entry .ensures) (c .before .before .if1 .left) (omega (arith, c .before .if2 .left, c .if3 .left))
 
 pub settle-spec : {M : Type 1} → statement M
 settle-spec =
     tie.close
     (tie.spec
     entry-of-requires
-    start-of-requires
+    last-operand-requires
+    cast-find-entry
+    add-find-entry
     find-entry-requires
-    cast-t10
+    cast-t12
     same-length
     returns
     same-length-2
@@ -71,7 +81,7 @@ settle-spec =
     returns-3
     mul-rows
     slice-write-rows
-    cast-t18
-    add-t8
+    cast-t20
+    add-t9
     same-length-4
     returns-4)

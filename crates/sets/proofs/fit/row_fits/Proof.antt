@@ -4,7 +4,7 @@ use Rattle.rules.specs.SetFile.{leaves}
 use mathlib.Core.Path.{ap, _∙_}
 use Rattle.base.specs.Answers.{shapeOf}
 use Rattle.laws.specs.Rule.{below-more}
-use Rattle.sets.specs.Contracts.{lastOf}
+use Rattle.laws.specs.Search.{lastOf}
 use Rattle.sets.specs.Spelt.{rowsIn, setWith}
 use Rattle.sets.specs.Fit.{here, inside, fits-late, fits-below, fits-folds, fits-made, fits-found}
 use native.Mathlib.Omega.{arith}
