@@ -145,7 +145,7 @@ module _ (first second : List ℕ) (shape : Shape) (p : Pair first second shape)
 
   -- A leaf keeps the number that it got.
   leaf-kept : (j i : ℕ) → i < L → reaches (Y .tab) (Y .heads) i ≡ true → getD (M (L + j) .new) i 0 ≡ getD (0 ∷ 1 ∷ X .heads) i 0
-  leaf-kept j i h q = carry-stays add (X .tab) (X .heads) (Y .tab) (Y .heads) L i h j
+  leaf-kept j i h q = carry-stays add (X .tab) (X .heads) (Y .tab) (Y .heads) L (L + j) i h (omega arith)
       ∙ left-carried (X .tab) (X .heads) (Y .tab) (Y .heads) canonY L (omega arith) .same i h q
 
   head-at : (i : ℕ) → 2 ≤ i → i < L → numberAt 2 first (headAt old (i - 2)) ≡ getD (0 ∷ 1 ∷ X .heads) i 0

@@ -1,5 +1,5 @@
 -- One set after another evaluates as first then second, over a canonical table; and the table only grows.
-use Prim.Native.Nat.{ℕ, zero, suc, _+_, _≤_, _<_}
+use Prim.Native.Nat.{ℕ, zero, suc, _+_, _-_, _≤_, _<_}
 use mathlib.Core.Path.{_≡_, refl, sym, ap, _∙_}
 use mathlib.Core.Bool.{Bool, true, false}
 use mathlib.Core.List.{List, [], _∷_, _++_, map-map}
@@ -110,9 +110,14 @@ module _ (put : List Row → Row → Added) (t : List Row) (x : List ℕ) (u : L
   unfolding carry
   carry-old k i h = row-old (carry put t x u y k) k (rowAt u k) (reaches u y k) (carry-size k) i h
 
-  pub carry-stays : (k i : ℕ) → i < k → (d : ℕ) → getD (carry put t x u y (k + d) .new) i 0 ≡ getD (carry put t x u y k .new) i 0
-  carry-stays k i h zero = rw add-zero
-  carry-stays k i h (suc d) = rw add-suc (carry-old (k + d) i (omega arith) ∙ carry-stays k i h d)
+  carry-more : (k i : ℕ) → i < k → (d : ℕ) → getD (carry put t x u y (k + d) .new) i 0 ≡ getD (carry put t x u y k .new) i 0
+  carry-more k i h zero = rw add-zero
+  carry-more k i h (suc d) = rw add-suc (carry-old (k + d) i (omega arith) ∙ carry-more k i h d)
+
+  pub carry-stays : (k n i : ℕ) → i < k → k ≤ n → getD (carry put t x u y n .new) i 0 ≡ getD (carry put t x u y k .new) i 0
+  carry-stays k n i h p =
+      let z : k + (n - k) ≡ n = omega arith in
+      rw z at (carry-more k i h (n - k))
 
 -- The leaf's row of a canonical table is the leaf of its own number.
 pub leaf-own : {C : ℕ} {t : List Row} → Canonical C t → (k i : ℕ) → k < length t → rowAt t k ≡ leaf i → (i ≡ k) × (k < 2 + C)

@@ -5,8 +5,8 @@ use mathlib.Core.Bool.{Bool, true, false, cond, not}
 use mathlib.Core.List.{List, [], _∷_, _++_}
 use native.Mathlib.Omega.{arith}
 use native.Mathlib.Decide.{ℕ-discrete}
-use lib.ListN.{length, getD, set, drop, length-set, take, length-map, length-replicate, getD-replicate}
-use lib.Seq.{getD-set-same, getD-set-other, drop-cons, drop-length, getD-take, length-take-le}
+use lib.ListN.{length, getD, set, drop, length-set, length-replicate, getD-replicate}
+use lib.Seq.{getD-set-same, getD-set-other, drop-cons, drop-length}
 use lib.Dec.{eqb}
 use borrow.Author.Tests.{eq-eqb, ne-eqb}
 use Rattle.rules.specs.Lists.{elem}
@@ -17,22 +17,11 @@ use Rattle.rules.specs.Operations.{workAfter}
 use Rattle.laws.specs.Canonical.{Below, Canonical}
 use Rattle.laws.specs.Rule.{below-more, canonical-below}
 use Rattle.base.specs.declared.kinds.Row as K
+use Rattle.rows.specs.Adding.{table-length, table-row}
 use Rattle.rows.specs.Entries.{nodeRow, rowOfEntry, tableIn}
 use Rattle.rows.specs.declared.node.Node.{Node}
 use Rattle.rows.specs.declared.node.Node.the-variants.{Leaf, Not, Two}
-use Rattle.writer.specs.Put.{getD-map}
 use Rattle.writer.specs.Contracts.{Tabled}
-
--- ---- the table that lent rows are
-
-pub table-length : (rows : List ℕ) (used : ℕ) → used ≤ length rows → length (tableIn rows used) ≡ used
-table-length rows used h = length-map (take used rows) rowOfEntry ∙ length-take-le used rows h
-
-pub table-row : (rows : List ℕ) (used k : ℕ) → used ≤ length rows → k < used
-    → rowAt (tableIn rows used) k ≡ rowOfEntry (getD rows k 0)
-table-row rows used k h g =
-    getD-map rowOfEntry (take used rows) k 0 (leaf 0) (omega (arith, length-take-le used rows h))
-    ∙ ap rowOfEntry (getD-take used rows k 0 g)
 
 -- ---- marking
 
@@ -197,7 +186,7 @@ module _ {sh : Shape} {x rows : List ℕ} {used room : ℕ} (T : Tabled sh x row
   pub walk-fits : {k : ℕ} {s : List ℕ} → 2 + cells sh < k → k ≤ used → Marking (tableIn rows used) x k s → OneMarks rows (k - 1) s
   walk-fits {k} {s} h g m =
       let fits : used ≤ length s = omega (arith, size, m .marked .size) in
-      let row = table-row rows used (k - 1) (T .held) (omega arith) in
+      let row = table-row rows used (k - 1) (omega arith) in
       record {
         held = omega (arith, T .held);
         numbered = omega arith;
@@ -212,7 +201,7 @@ module _ {sh : Shape} {x rows : List ℕ} {used room : ℕ} (T : Tabled sh x row
   walk-more {k} {s} h g m q =
       let z : k ≡ suc (k - 1) = omega arith in
       let r : Marking (tableIn rows used) x (suc (k - 1)) s = subst (λ n. Marking (tableIn rows used) x n s) z m in
-      let row = table-row rows used (k - 1) (T .held) (omega arith) in
+      let row = table-row rows used (k - 1) (omega arith) in
       let low = walk-fits h g m .low in
       rw (q, ← row) (marking-more (tableIn rows used) x (k - 1) s (rw row low) (omega (arith, size)) r)
 

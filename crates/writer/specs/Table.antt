@@ -2,17 +2,16 @@
 use Prim.Native.Nat.{ℕ, zero, suc, _+_, _*_, _-_, _≤_, _<_}
 use mathlib.Core.Path.{_≡_, refl, sym, ap, ap₂, _∙_}
 use mathlib.Core.Bool.{Bool, true, false}
-use mathlib.Core.List.{List, [], _∷_, _++_, flatMap, append-nil}
+use mathlib.Core.List.{List, [], _++_, flatMap, append-nil}
 use native.Mathlib.Omega.{arith}
-use native.Mathlib.Decide.{decLt}
 use lib.ListN.{length, getD, drop, length-drop, length-map, drop-of-length-le}
 use lib.Seq.{drop-append-le}
 use borrow.Author.Tests.{eq-eqb}
 use Rattle.rules.specs.Lists.{bytesOf}
 use Rattle.rules.specs.Edition.{old}
 use Rattle.rules.specs.Shape.{Shape, cells, writeHeader}
-use Rattle.rules.specs.Rows.{Row, leaf, inv, bin, rowAt}
-use Rattle.rules.specs.Sets.{unchanging, reaches, carryRow, carry, append, squeeze}
+use Rattle.rules.specs.Rows.{Row, leaf, inv, bin, base, rowAt}
+use Rattle.rules.specs.Sets.{unchanging, reaches, append, squeeze}
 use Rattle.rules.specs.SetFile.{TransferSet, rowBytes, writeSet}
 use Rattle.rules.specs.Operations.{setOf, writeInto}
 use Rattle.laws.specs.Lists.{map-ext, elem-at}
@@ -21,7 +20,7 @@ use Rattle.laws.specs.Rule.{below-more, canonical-below}
 use Rattle.laws.specs.Rows.{length-base}
 use Rattle.laws.specs.Grow.{ext-length}
 use Rattle.laws.specs.Reach.{needs-keeps, reaches-operands}
-use Rattle.laws.specs.After.{over, snoc-old}
+use Rattle.laws.specs.After.{over, carry-stays}
 use Rattle.laws.specs.Squeeze.{ren, Packed, packed}
 use Rattle.base.specs.declared.refusal.Refusal.the-variants.{NoRoom}
 use Rattle.rows.specs.Entries.{tableIn}
@@ -29,29 +28,10 @@ use Rattle.writer.specs.declared.Written.the-variants.{Length, Refused}
 use Rattle.writer.specs.Contracts.{Writes, Tabled}
 use Rattle.writer.specs.Put.{putAt, newHeads}
 use Rattle.writer.specs.Kept.{kept, keptAt, kept-one, AllFit}
-use Rattle.writer.specs.Marks.{Reached, table-length, table-row}
+use Rattle.writer.specs.Marks.{Reached}
+use Rattle.rows.specs.Adding.{table-length, table-row}
 use Rattle.writer.specs.Write.{set-length, set-put, writes-short, writes-whole}
 use Rattle.writer.specs.Numbers.{Numbering, numbering, numberRows, carried, Numbered, carried-op, carried-none, numbered}
-
--- A number that a row has got stays.
-new-stays : {C : ℕ} {t : List Row} → Canonical C t → (x : List ℕ) (i k n : ℕ) → i < k → k ≤ n → n ≤ length t
-    → getD (carried C t x n .new) i 0 ≡ getD (carried C t x k .new) i 0
-unfolding carry
-new-stays w x i k zero h p l = absurd (omega arith)
-new-stays {C} {t} w x i k (suc n) h p l = elim (decLt n k) [
-  | yes z ↦ ap (λ m. getD (carried C t x m .new) i 0) (same z)
-  | no z ↦ (let s = snoc (reaches t x n) in
-      ap (λ l. getD l i 0) (s .1) ∙ snoc-old (carried C t x n .new) (s .0) n (packed t x w n (omega arith) .size) i (omega arith)
-      ∙ new-stays w x i k n h (omega arith) (omega arith))
-]
-  where
-    same : n < k → suc n ≡ k
-    same z = omega arith
-
-    snoc : (b : Bool)
-        → (a : ℕ) × (carryRow append (unchanging C) (carried C t x n) (rowAt t n) b .new ≡ carried C t x n .new ++ (a ∷ []))
-    snoc true = (_, refl)
-    snoc false = (0, refl)
 
 -- Rows renumbered by lists that agree on their operands are the same.
 ren-same : (P : ℕ → Type 0) (m n : List ℕ) (k : ℕ) → ((a : ℕ) → a < k → P a → getD m a 0 ≡ getD n a 0)
@@ -83,10 +63,10 @@ module _ (rows : List ℕ) (used : ℕ) (held : used ≤ length rows) {C : ℕ} 
       let own = N .reached k l q in
       let high = pack used (omega arith) .placed k l q .high h in
       let some : getD (s .new) k 0 ≡ 0 → ⊥ = λ z. omega (arith, own, high) in
-      let row = table-row rows used k held l in
+      let row = table-row rows used k l in
       let below = canonical-below w k (omega (arith, size)) in
       let closed = reaches-operands t w x k (rowAt t k) (omega (arith, size)) refl q in
-      let stays : (a : ℕ) → a < k → reaches t x a ≡ true → getD (m .new) a 0 ≡ getD (s .new) a 0 = λ a p r. sym (N .reached a (omega arith) r ∙ new-stays w x a k used p (omega arith) (omega (arith, size))) in
+      let stays : (a : ℕ) → a < k → reaches t x a ≡ true → getD (m .new) a 0 ≡ getD (s .new) a 0 = λ a p r. sym (N .reached a (omega arith) r ∙ carry-stays append (base C) (unchanging C) t x k used a p (omega arith)) in
       let same = ren-same (λ a. reaches t x a ≡ true) (m .new) (s .new) k stays (rowAt t k) below closed in
       ap (λ m. drop (2 + C) (m .tab)) e ∙ drop-append-le (2 + C) (m .tab) _ (tall k (omega arith))
       ∙ rw (kept-one rows (s .new) k some, ← row, same)
@@ -180,7 +160,7 @@ module _ {sh : Shape} {x rows : List ℕ} {used room : ℕ} (T : Tabled sh x row
     begun = omega (arith, long);
     held = T .held;
     numbered = fits;
-    low = λ k p l. rw (← table-row rows used k (T .held) l)
+    low = λ k p l. rw (← table-row rows used k l)
         (below-more k (length new) (rowAt (tableIn rows used) k) (omega (arith, fits))
         (canonical-below (T .stands .canonical) k (omega (arith, table-length rows used (T .held)))));
     room = omega (arith, kept-count);
