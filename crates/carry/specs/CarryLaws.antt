@@ -5,7 +5,7 @@ use mathlib.Core.Bool.{Bool, true, false}
 use mathlib.Core.List.{List, [], _∷_, _++_}
 use native.Mathlib.Omega.{arith}
 use native.Mathlib.Decide.{decLt}
-use lib.ListN.{length, getD, set, length-map, length-set, List·getD-map}
+use lib.ListN.{length, getD, set, length-map, length-set}
 use lib.Seq.{getD-set-same, getD-set-other}
 use borrow.Author.Tests.{lt-ltb, le-ltb}
 use Rattle.rules.specs.Edition.{old}
@@ -17,7 +17,7 @@ use Rattle.rules.specs.Sets.{Carried, carry, reaches, after}
 use Rattle.rules.specs.SetFile.{TransferSet, leaves, headAt, named}
 use Rattle.rules.specs.Operations.{composed}
 use Rattle.laws.specs.Verdict.{no-false}
-use Rattle.laws.specs.Lists.{map-ext, elem-at}
+use Rattle.laws.specs.Lists.{getD-map, map-ext, elem-at}
 use Rattle.laws.specs.Canonical.{Operands, Below, Canonical}
 use Rattle.laws.specs.Rule.{Ready, canonical-ready, canonical-below}
 use Rattle.laws.specs.Reach.{needs-keeps, reaches-operands}
@@ -367,9 +367,7 @@ module _ (first second : List ℕ) (shape : Shape) (p : Pair first second shape)
         → h ≡ numberAt 2 second (headAt old c) → v ≡ newNumber first L numbers h → Replacing d 0 given (set u c v) (c + 1)
     heads-more d u c h v size f l q e =
         let z : c - 0 ≡ c = omega arith in
-        let zero-is : newNumber first L numbers 0 ≡ 0 = sym (number-constant first L numbers 0 (omega arith)) in
-        let at : getD given c 0 ≡ newNumber first L numbers (getD (Y .heads) c 0)
-        = ap (getD given c) (sym zero-is) ∙ List·getD-map (newNumber first L numbers) (Y .heads) c 0 in
+        let at = getD-map (newNumber first L numbers) (Y .heads) c 0 0 (omega (arith, headsY, w .count)) in
         replacing-more f (omega arith) (omega (arith, given-length)) (e ∙ ap (newNumber first L numbers) (head-is c h l q) ∙ rw z (sym at))
 
     pub heads-all : (d u : List ℕ) (c : ℕ) → length d ≡ n → Replacing d 0 given u c → n ≤ c → u ≡ given

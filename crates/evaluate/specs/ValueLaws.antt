@@ -5,7 +5,7 @@ use mathlib.Core.Bool.{Bool, true, false}
 use mathlib.Core.List.{List, _∷_, map}
 use native.Mathlib.Omega.{arith}
 use native.Mathlib.Decide.{decLt}
-use lib.ListN.{length, getD, set, length-map, length-set, List·getD-map}
+use lib.ListN.{length, getD, set, length-map, length-set}
 use lib.Seq.{getD-set-same, getD-set-other}
 use Rattle.rules.specs.Edition.{old}
 use Rattle.rules.specs.Lists.{numberAt}
@@ -14,9 +14,10 @@ use Rattle.rules.specs.Rows.{Row, leaf, inv, bin, rowAt, rowValue, value}
 use Rattle.rules.specs.Sets.{act}
 use Rattle.rules.specs.SetFile.{leaves, headAt}
 use Rattle.rules.specs.Operations.{bit}
+use Rattle.laws.specs.Lists.{getD-map}
 use Rattle.laws.specs.Canonical.{Below, Canonical}
 use Rattle.laws.specs.Rows.{canonical-value}
-use Rattle.laws.specs.Rule.{canonical-below, zero-is}
+use Rattle.laws.specs.Rule.{canonical-below}
 use Rattle.laws.specs.After.{leaf-own}
 use Rattle.base.specs.Answers.{shapeOf}
 use Rattle.base.specs.declared.shape.Shape as B
@@ -193,9 +194,9 @@ module _ (file : List ℕ) (s : List ℕ) (e : Evaluable file s) where
   given-at c h =
       let b = bitsOf s in
       let x = setIn file .heads in
-      let z : value t b 0 ≡ false = zero-is canonical b in
-      let at : getD (map (value t b) x) c false ≡ value t b (getD x c 0) = rw (← z) (List·getD-map (value t b) x c 0) in
-      List·getD-map bit (map (value t b) x) c false ∙ ap bit (at ∙ ap (value t b) (spelt-head file sh r c (omega (arith, e .stored .size))))
+      let n : c < length x = omega (arith, spelt-heads file sh r, e .stored .size) in
+      getD-map bit (map (value t b) x) c false 0 (rw length-map n)
+      ∙ ap bit (getD-map (value t b) x c 0 false n ∙ ap (value t b) (spelt-head file sh r c (omega (arith, e .stored .size))))
 
   pub heads-none : Replacing s 0 given s 0
   heads-none = replacing-none (omega arith)

@@ -23,3 +23,4 @@ pub mod SetFile
 pub mod Compose
 pub mod Room
 pub mod Files
+pub mod Composition

@@ -41,6 +41,12 @@ map-low g n e [] k = omega (arith, e 0)
 map-low g n e (x ∷ l) zero = e x
 map-low g n e (x ∷ l) (suc k) = map-low g n e l k
 
+-- An element of the images of a list.
+pub getD-map : {A B : Type 0} (f : A → B) (l : List A) (i : ℕ) (d : A) (e : B) → i < length l → getD (map f l) i e ≡ f (getD l i d)
+getD-map f [] i d e h = absurd (omega arith)
+getD-map f (x ∷ l) zero d e h = refl
+getD-map f (x ∷ l) (suc i) d e h = getD-map f l i d e (omega arith)
+
 module _ {A : Type 0} where
   -- The images of the numbers from i + 1 on, by the numbers from i on.
   pub map-shift : (f : ℕ → A) (i n : ℕ) → map f (from (suc i) n) ≡ map (λ k. f (suc k)) (from i n)

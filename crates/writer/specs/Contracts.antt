@@ -2,7 +2,9 @@
 use Prim.Native.Nat.{ℕ, _≤_}
 use mathlib.Core.Path.{_≡_, refl, sym, ap, _∙_}
 use mathlib.Core.List.{List}
-use lib.ListN.{length}
+use native.Mathlib.Omega.{arith}
+use lib.ListN.{length, take, drop}
+use lib.Seq.{take-append-seam}
 use Rattle.rules.specs.Verdict.{Verdict, granted, refused, _>>=_}
 use Rattle.rules.specs.Edition.{old, mostRows}
 use Rattle.rules.specs.Shape.{Shape, cells, checkShape}
@@ -50,3 +52,12 @@ pub writes-only : (v : Verdict (List ℕ)) (a b : Written) (before t u : List �
     → (a ≡ b) × (t ≡ u)
 writes-only v a b before t u p q =
     (sym (answer-back a) ∙ ap answerOf (p .answer ∙ sym (q .answer)) ∙ answer-back b, p .output ∙ sym (q .output))
+
+-- R59: what a granted call leaves at the front of the output is what the rules hand back.
+pub writes-front : (v : Verdict (List ℕ)) (n : ℕ) (before after : List ℕ) → Writes v (Length n) before after → v ≡ granted (take n after)
+writes-front (granted bytes) n before after w =
+    let size : n ≡ length bytes = cc (w .answer) in
+    ap granted (sym (rw (w .output, size) (take-append-seam bytes (drop (length bytes) before))))
+writes-front (refused k p) n before after w =
+    let z : _≡_ {A = ℕ} 0 1 = cc (w .answer) in
+    absurd (omega arith)

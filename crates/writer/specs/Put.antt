@@ -1,5 +1,5 @@
 -- Bytes written into an output one after another, and tables of them.
-use Prim.Native.Nat.{ℕ, zero, suc, _+_, _*_, _/_, _%_, _≤_, _<_}
+use Prim.Native.Nat.{ℕ, suc, _+_, _*_, _/_, _%_, _≤_, _<_}
 use mathlib.Core.Path.{_≡_, refl, sym, ap, _∙_}
 use mathlib.Core.List.{List, [], _∷_, _++_, map, flatMap, append-assoc, append-nil}
 use native.Mathlib.Omega.{arith}
@@ -11,6 +11,7 @@ use Rattle.rules.specs.Lists.{bytesOf}
 use Rattle.rules.specs.Edition.{old}
 use Rattle.rules.specs.Shape.{Shape, writeHeader}
 use Rattle.rules.specs.Sets.{unchanging}
+use Rattle.laws.specs.Lists.{getD-map}
 use Rattle.laws.specs.Bytes.{length-bytes, length-table}
 use Rattle.laws.specs.Squeeze.{unchanging-at, unchanging-stands}
 
@@ -104,12 +105,6 @@ module _ {out₀ : List ℕ} {at : ℕ} {xs : List ℕ} where
 
   pub words-all : {out : List ℕ} {i : ℕ} → Words out₀ at xs out i → length xs ≤ i → out ≡ putAt out₀ at (flatMap (bytesOf 2) xs)
   words-all {i = i} w h = rw (take-all i xs h) at (w .is)
-
--- An element of the images of a list.
-pub getD-map : {A B : Type 0} (f : A → B) (l : List A) (i : ℕ) (d : A) (e : B) → i < length l → getD (map f l) i e ≡ f (getD l i d)
-getD-map f [] i d e h = absurd (omega arith)
-getD-map f (x ∷ l) zero d e h = refl
-getD-map f (x ∷ l) (suc i) d e h = getD-map f l i d e (omega arith)
 
 -- R32, R41: the heads of the set that changes nothing: head i is row 2 + i.
 module _ {out₀ out : List ℕ} {C i : ℕ} (w : Words out₀ 7 (unchanging C) out i) where
