@@ -1,10 +1,10 @@
--- `cases::read::read_bytes`: what is read stays within what is lent.
+-- `harness::read::read_bytes`: what is read stays within what is lent.
 use mathlib.Core.Path.{sym}
 use lib.Seq.{length-take-le}
 use native.Mathlib.Omega.{arith}
 use borrow.Author.Needs.{needs}
-use Rattle.cases.proofs.read.read_bytes.Statement.{statement}
-use Rattle.cases.proofs.read.read_bytes.Tie as tie
+use Rattle.harness.proofs.read.read_bytes.Statement.{statement}
+use Rattle.harness.proofs.read.read_bytes.Tie as tie
 
 skip-bytes-requires : tie.Need-skip-bytes-requires
 skip-bytes-requires c κs = search needs

@@ -1,9 +1,9 @@
--- `cases::show::say_bytes`: the measure is the number of bytes that are left.
+-- `harness::show::say_bytes`: the measure is the number of bytes that are left.
 use Prim.Native.Nat.{_-_}
 use lib.ListN.{length}
 use borrow.Author.Needs.{needs}
-use Rattle.cases.proofs.show.say_bytes.Statement.{statement}
-use Rattle.cases.proofs.show.say_bytes.Tie as tie
+use Rattle.harness.proofs.show.say_bytes.Statement.{statement}
+use Rattle.harness.proofs.show.say_bytes.Tie as tie
 
 abbrev Inv-loop : tie.InvT-loop
 Inv-loop s i₀ i = Unit {0}

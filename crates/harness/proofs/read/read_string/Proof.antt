@@ -1,7 +1,7 @@
--- `cases::read::read_string`: what is read stays within what is lent.
+-- `harness::read::read_string`: what is read stays within what is lent.
 use borrow.Author.Needs.{needs}
-use Rattle.cases.proofs.read.read_string.Statement.{statement}
-use Rattle.cases.proofs.read.read_string.Tie as tie
+use Rattle.harness.proofs.read.read_string.Statement.{statement}
+use Rattle.harness.proofs.read.read_string.Tie as tie
 
 read-number-requires : tie.Need-read-number-requires
 read-number-requires c κs = search needs

@@ -3,7 +3,7 @@ ghost use mathlib.Core.Path.{_≡_};
 ghost use Prim.Native.Nat.{_≤_, _<_};
 ghost use lib.ListN.{length};
 ghost use Rattle.rules.specs.Lists.{numberAt};
-ghost use Rattle.cases.specs.Fields.{Fits};
+ghost use Rattle.harness.specs.Fields.{Fits};
 
 // A number, or an input that ends before it.
 pub enum Number {
@@ -42,6 +42,19 @@ pub fn read_number() -> Number {
         return Number::Cut;
     }
     Number::Is(number_of(&b))
+}
+
+// Reads numbers into what was lent, and says whether they were all there.
+pub fn read_numbers(lent: &mut [u32]) -> bool {
+    let mut i = 0;
+    while i < lent.len() {
+        let Number::Is(n) = read_number() else {
+            return false;
+        };
+        lent[i] = n;
+        i += 1;
+    }
+    true
 }
 
 // Reads at most 4,096 bytes of those that are left, and says how many came.

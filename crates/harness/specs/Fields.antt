@@ -6,8 +6,8 @@ use native.Mathlib.Omega.{arith}
 use lib.ListN.{getD, length, take}
 use lib.Seq.{length-take-le}
 use Rattle.rules.specs.Lists.{numberAt}
-use Rattle.cases.specs.declared.read.Text.{Text}
-use Rattle.cases.specs.declared.read.Text.the-variants.{Holds, Long, Cut}
+use Rattle.harness.specs.declared.read.Text.{Text}
+use Rattle.harness.specs.declared.read.Text.the-variants.{Holds, Long, Cut}
 
 -- The bytes that a string holds are among those lent.
 abbrev pub Fits : Text → ℕ → Type 0

@@ -1,7 +1,7 @@
--- `cases::read::skip_bytes` ends: the measure is the number of bytes that are left, and each turn reads at least one.
+-- `harness::read::skip_bytes` ends: the measure is the number of bytes that are left, and each turn reads at least one.
 use borrow.Author.Needs.{needs}
-use Rattle.cases.proofs.read.skip_bytes.Statement.{statement}
-use Rattle.cases.proofs.read.skip_bytes.Tie as tie
+use Rattle.harness.proofs.read.skip_bytes.Statement.{statement}
+use Rattle.harness.proofs.read.skip_bytes.Tie as tie
 
 abbrev Inv-loop : tie.InvT-loop
 Inv-loop count left₀ left = Unit {0}

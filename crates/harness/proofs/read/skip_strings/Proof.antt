@@ -1,7 +1,7 @@
--- `cases::read::skip_strings` ends: the measure is the number of strings that are left.
+-- `harness::read::skip_strings` ends: the measure is the number of strings that are left.
 use borrow.Author.Needs.{needs}
-use Rattle.cases.proofs.read.skip_strings.Statement.{statement}
-use Rattle.cases.proofs.read.skip_strings.Tie as tie
+use Rattle.harness.proofs.read.skip_strings.Statement.{statement}
+use Rattle.harness.proofs.read.skip_strings.Tie as tie
 
 abbrev Inv-loop : tie.InvT-loop
 Inv-loop count left₀ left = Unit {0}

@@ -1,9 +1,9 @@
--- `cases::read::number_of`: the four bytes are those of the definition.
-use Rattle.cases.specs.Fields.{number-four}
+-- `harness::read::number_of`: the four bytes are those of the definition.
+use Rattle.harness.specs.Fields.{number-four}
 use native.Mathlib.Omega.{arith}
 use borrow.Author.Needs.{needs}
-use Rattle.cases.proofs.read.number_of.Statement.{statement}
-use Rattle.cases.proofs.read.number_of.Tie as tie
+use Rattle.harness.proofs.read.number_of.Statement.{statement}
+use Rattle.harness.proofs.read.number_of.Tie as tie
 
 element-copy-out-wide : tie.Need-element-copy-out-wide
 element-copy-out-wide c = search needs

@@ -1,4 +1,6 @@
 // Writes answers to standard output, as the case files have them.
+use crate::lent::bytes_agree;
+use crate::lent::bytes_are;
 use base::refusal::Refusal;
 ghost use mathlib.Core.Path.{_≡_};
 ghost use Rattle.base.specs.Answers.{numberOf, placeOf};
@@ -28,18 +30,55 @@ fn number_refusal(x: Refusal) -> Shown
     }
 }
 
-// Each of these writes a line's text or a part of it, and says whether the last of it was written.
+// Each of these writes a line or a part of one, and says whether the last of it was written.
 pub fn say(text: &[u8]) -> bool {
     io::write_all(1, text)
 }
 
-pub fn say_refusal(x: Refusal) -> bool {
+// The input ends within a case, or the case is none: nothing follows.
+pub fn cut() -> bool {
+    say(b"cut\n");
+    false
+}
+
+// The case asks for more than the program lends.
+pub fn too_large() -> bool {
+    say(b"too large\n")
+}
+
+// An operation did not leave what is lent as it must.
+pub fn broken() -> bool {
+    say(b"broken\n")
+}
+
+// A refusal, and how its line ends.
+fn say_refused(x: Refusal, end: &[u8]) -> bool {
     let s = number_refusal(x);
     say(b"refused ");
     io::print_decimal(1, s.0);
     say(b" at ");
     io::print_decimal(1, s.1);
-    say(b"\n")
+    say(end)
+}
+
+pub fn say_refusal(x: Refusal) -> bool {
+    say_refused(x, b"\n")
+}
+
+// A refusal leaves the storage as it was.
+pub fn refused_on(x: Refusal, cells: &[u8], before: &[u8]) -> bool {
+    if !bytes_agree(cells, before) {
+        return broken();
+    }
+    say_refusal(x)
+}
+
+// A refusal leaves the output filled with x.
+pub fn refused_output(r: Refusal, end: &[u8], out: &[u8], x: u8) -> bool {
+    if !bytes_are(out, x) {
+        return broken();
+    }
+    say_refused(r, end)
 }
 
 fn say_byte(b: u8) -> bool {
@@ -57,7 +96,27 @@ fn say_bytes(s: &[u8]) {
 pub fn say_stopped(steps: u32, cells: &[u8]) -> bool {
     say(b"steps ");
     io::print_decimal(1, steps as u64);
-    say(b" storage ");
+    say(b" ");
+    say_storage(cells)
+}
+
+pub fn say_storage(cells: &[u8]) -> bool {
+    say(b"storage ");
     say_bytes(cells);
+    say(b"\n")
+}
+
+// The first n bytes of the output were written; those past them are x still.
+pub fn say_wrote(n: usize, out: &[u8], x: u8) -> bool {
+    if out.len() < n {
+        return broken();
+    }
+    if !bytes_are(&out[n..], x) {
+        return broken();
+    }
+    say(b"wrote ");
+    io::print_decimal(1, n as u64);
+    say(b" ");
+    say_bytes(&out[..n]);
     say(b"\n")
 }

@@ -1,10 +1,10 @@
--- `cases::read::skip_some`: a part of the buffer is filled, and it is no longer than what is left.
+-- `harness::read::skip_some`: a part of the buffer is filled, and it is no longer than what is left.
 use mathlib.Core.Path.{sym}
 use lib.Seq.{length-take-le}
 use native.Mathlib.Omega.{arith}
 use borrow.Author.Needs.{needs}
-use Rattle.cases.proofs.read.skip_some.Statement.{statement}
-use Rattle.cases.proofs.read.skip_some.Tie as tie
+use Rattle.harness.proofs.read.skip_some.Statement.{statement}
+use Rattle.harness.proofs.read.skip_some.Tie as tie
 
 buffer-requires : tie.Need-buffer-requires
 buffer-requires c κs = search needs
