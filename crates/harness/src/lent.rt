@@ -1,8 +1,7 @@
 // Fills what is lent with a pattern before an operation, and tests after it what an operation leaves.
 ghost use mathlib.Core.Path.{_≡_};
-ghost use mathlib.Core.Bool.{true};
 ghost use lib.ListN.{length, replicate};
-ghost use Rattle.harness.specs.Lent.{allAre};
+ghost use Rattle.harness.specs.Lent.{allAre, Tells};
 
 // Fills lent bytes.
 pub fn fill_bytes(s: &mut [u8], x: u8)
@@ -81,7 +80,7 @@ pub fn rows_are(s: &[u64], x: u64) -> bool
 
 // Whether two slices hold the same bytes.
 pub fn bytes_agree(a: &[u8], b: &[u8]) -> bool
-    ensures { λ r. ⌜ (r ≡ true → now (a .entry) ≡ now (b .entry)) × (now (a .entry) ≡ now (b .entry) → r ≡ true) ⌝ }
+    ensures { λ r. ⌜ Tells r (now (a .entry) ≡ now (b .entry)) ⌝ }
 {
     if a.len() != b.len() {
         return false;
