@@ -144,13 +144,13 @@ fn compose_lent(first: &[u8], second: &[u8], r: usize, n: usize, o: usize) -> bo
 
 // Reads how much is lent, and composes.
 fn compose_asked(first: &[u8], second: &[u8]) -> bool {
-    let mut asked = [0u32; 3];
+    let mut asked = [0usize; 3];
     if !read_numbers(&mut asked) {
         return cut();
     }
-    let r = asked[0] as usize;
-    let n = asked[1] as usize;
-    let o = asked[2] as usize;
+    let r = asked[0];
+    let n = asked[1];
+    let o = asked[2];
     if 90000 < r {
         return too_large();
     }
@@ -164,13 +164,18 @@ fn compose_asked(first: &[u8], second: &[u8]) -> bool {
 }
 
 // Reads the second file, and composes.
-fn compose_on(first: &[u8]) -> bool {
-    let mut second = [0u8; 400000];
-    match read_string(&mut second) {
+fn compose_with(first: &[u8], second: &mut [u8]) -> bool {
+    match read_string(second) {
         Text::Holds(n) => compose_asked(first, &second[..n]),
         Text::Long => pass_over(0, 3, b"too large\n"),
         Text::Cut => cut(),
     }
+}
+
+// Lends what the second file is read into.
+fn compose_on(first: &[u8]) -> bool {
+    let mut second = [0u8; 400000];
+    compose_with(first, &mut second)
 }
 
 // 6: composes two sets.
@@ -192,7 +197,7 @@ fn unchanging_shown(shape: Shape, out: &mut [u8]) -> bool {
 }
 
 // Lends so many bytes of output. The numbers of a shape are at most 255.
-fn unchanging_lent(d: u32, i: u32, o: u32, m: u32, lent: usize) -> bool {
+fn unchanging_lent(d: usize, i: usize, o: usize, m: usize, lent: usize) -> bool {
     if 255 < d {
         return too_large();
     }
@@ -220,10 +225,9 @@ fn unchanging_lent(d: u32, i: u32, o: u32, m: u32, lent: usize) -> bool {
 
 // 7: writes the set that changes nothing.
 pub fn unchanging_case() -> bool {
-    let mut asked = [0u32; 5];
+    let mut asked = [0usize; 5];
     if !read_numbers(&mut asked) {
         return cut();
     }
-    let lent = asked[4] as usize;
-    unchanging_lent(asked[0], asked[1], asked[2], asked[3], lent)
+    unchanging_lent(asked[0], asked[1], asked[2], asked[3], asked[4])
 }

@@ -45,13 +45,13 @@ pub fn read_number() -> Number {
 }
 
 // Reads numbers into what was lent, and says whether they were all there.
-pub fn read_numbers(lent: &mut [u32]) -> bool {
+pub fn read_numbers(lent: &mut [usize]) -> bool {
     let mut i = 0;
     while i < lent.len() {
         let Number::Is(n) = read_number() else {
             return false;
         };
-        lent[i] = n;
+        lent[i] = n as usize;
         i += 1;
     }
     true

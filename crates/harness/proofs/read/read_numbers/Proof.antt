@@ -30,6 +30,9 @@ same-length c = search needs
 returns : tie.Need-returns Inv-loop μ-loop
 returns c = tt
 
+cast-lent : tie.Need-cast-lent Inv-loop μ-loop
+cast-lent c = search needs
+
 mul-lent : tie.Need-mul-lent Inv-loop μ-loop
 mul-lent c = search needs
 
@@ -63,6 +66,7 @@ read-numbers-spec =
     enum-told
     same-length
     returns
+    cast-lent
     mul-lent
     slice-write-lent
     add-i

@@ -1,9 +1,15 @@
--- `cases::answer::scan_on`: the storage that was read is a part of what is lent, so no longer than that.
-use Rattle.cases.specs.Fields.{held, held-part}
+use Rattle.harness.specs.Fields.{held, held-part}
 use native.Mathlib.Omega.{arith}
 use borrow.Author.Needs.{needs}
-use Rattle.cases.proofs.answer.scan_on.Statement.{statement}
-use Rattle.cases.proofs.answer.scan_on.Tie as tie
+use Rattle.cases.proofs.set_cases.evaluate_on.Statement.{statement}
+use Rattle.cases.proofs.set_cases.evaluate_on.Tie as tie
+use Rattle.cases.proofs.set_cases.evaluate_on.Reads as reads
+use Rattle.cases.proofs.set_cases.evaluate_on.Lts as lts
+use Rattle.cases.proofs.set_cases.evaluate_lent.Reads as evaluate-lent-reads
+use Rattle.harness.proofs.pass_over.Reads as pass-over-reads
+use Rattle.harness.proofs.read.read_number.Reads as read-number-reads
+use Rattle.harness.proofs.read.read_string.Reads as read-string-reads
+use Rattle.harness.proofs.show.cut.Reads as cut-reads
 
 read-string-requires : tie.Need-read-string-requires
 read-string-requires c κs = search needs
@@ -14,23 +20,26 @@ enum-known-n c = search needs
 read-number-requires : tie.Need-read-number-requires
 read-number-requires c κs = search needs
 
-enum-known-budget : tie.Need-enum-known-budget
-enum-known-budget c = search needs
+enum-known-count : tie.Need-enum-known-count
+enum-known-count c = search needs
 
-slice-relend-prefix-scan-shown : tie.Need-slice-relend-prefix-scan-shown
-slice-relend-prefix-scan-shown c =
+slice-relend-prefix-evaluate-lent : tie.Need-slice-relend-prefix-evaluate-lent
+slice-relend-prefix-evaluate-lent c =
     let s = c .before .before .before .before .before .before .before .before .before .read-string in
     let n = c .before .before .before .before .before .n .given .0 .0 in
     held (s .result) n (s .last .0) (s .ensures) (cc) (s .kept .0)
 
-slice-aggregate-scan-shown : tie.Need-slice-aggregate-scan-shown
-slice-aggregate-scan-shown c =
+slice-aggregate-evaluate-lent : tie.Need-slice-aggregate-evaluate-lent
+slice-aggregate-evaluate-lent c =
     let s = c .before .before .before .before .before .before .before .before .before .before .read-string in
     let n = c .before .before .before .before .before .before .n .given .0 .0 in
     held-part (s .result) n (s .last .0) (s .ensures) (cc) (s .kept .0)
 
-scan-shown-requires : tie.Need-scan-shown-requires
-scan-shown-requires c κs =
+cast-evaluate-lent : tie.Need-cast-evaluate-lent
+cast-evaluate-lent c = search needs
+
+evaluate-lent-requires : tie.Need-evaluate-lent-requires
+evaluate-lent-requires c κs =
     let s = c .before .before .before .before .before .before .before .before .before .before .read-string in
     let n = c .before .before .before .before .before .before .n .given .0 .0 in
     omega (
@@ -85,17 +94,18 @@ same-length-4 c = search needs
 returns-4 : tie.Need-returns-4
 returns-4 c = search needs
 
-pub scan-on-spec : {M : Type 1} → statement M
-scan-on-spec =
+pub evaluate-on-spec : {M : Type 1} → statement M
+evaluate-on-spec =
     tie.close
     (tie.spec
     read-string-requires
     enum-known-n
     read-number-requires
-    enum-known-budget
-    slice-relend-prefix-scan-shown
-    slice-aggregate-scan-shown
-    scan-shown-requires
+    enum-known-count
+    slice-relend-prefix-evaluate-lent
+    slice-aggregate-evaluate-lent
+    cast-evaluate-lent
+    evaluate-lent-requires
     enum-told
     cut-requires
     enum-told-2

@@ -1,8 +1,14 @@
--- `cases::answer::scan_case`: the file that was read is a part of what is lent.
-use Rattle.cases.specs.Fields.{held, held-part}
+use Rattle.harness.specs.Fields.{held, held-part}
+use native.Mathlib.Omega.{arith}
 use borrow.Author.Needs.{needs}
-use Rattle.cases.proofs.answer.scan_case.Statement.{statement}
-use Rattle.cases.proofs.answer.scan_case.Tie as tie
+use Rattle.cases.proofs.set_cases.evaluate_case.Statement.{statement}
+use Rattle.cases.proofs.set_cases.evaluate_case.Tie as tie
+use Rattle.cases.proofs.set_cases.evaluate_case.Reads as reads
+use Rattle.cases.proofs.set_cases.evaluate_case.Lts as lts
+use Rattle.cases.proofs.set_cases.evaluate_on.Reads as evaluate-on-reads
+use Rattle.harness.proofs.pass_over.Reads as pass-over-reads
+use Rattle.harness.proofs.read.read_string.Reads as read-string-reads
+use Rattle.harness.proofs.show.cut.Reads as cut-reads
 
 read-string-requires : tie.Need-read-string-requires
 read-string-requires c κs = search needs
@@ -10,18 +16,18 @@ read-string-requires c κs = search needs
 enum-known-n : tie.Need-enum-known-n
 enum-known-n c = search needs
 
-slice-reshare-prefix-scan-on : tie.Need-slice-reshare-prefix-scan-on
-slice-reshare-prefix-scan-on c =
+slice-reshare-prefix-evaluate-on : tie.Need-slice-reshare-prefix-evaluate-on
+slice-reshare-prefix-evaluate-on c =
     let s = c .before .before .before .before .before .read-string in
     held (s .result) (c .before .n .given .0 .0) (s .last .0) (s .ensures) (cc) (s .kept .0)
 
-slice-aggregate-scan-on : tie.Need-slice-aggregate-scan-on
-slice-aggregate-scan-on c =
+slice-aggregate-evaluate-on : tie.Need-slice-aggregate-evaluate-on
+slice-aggregate-evaluate-on c =
     let s = c .before .before .before .before .before .before .read-string in
     held-part (s .result) (c .before .before .n .given .0 .0) (s .last .0) (s .ensures) (cc) (s .kept .0)
 
-scan-on-requires : tie.Need-scan-on-requires
-scan-on-requires c κs = search needs
+evaluate-on-requires : tie.Need-evaluate-on-requires
+evaluate-on-requires c κs = search needs
 
 enum-told : tie.Need-enum-told
 enum-told c = search needs
@@ -59,15 +65,15 @@ same-length-4 c = search needs
 returns-3 : tie.Need-returns-3
 returns-3 c = search needs
 
-pub scan-case-spec : {M : Type 1} → statement M
-scan-case-spec =
+pub evaluate-case-spec : {M : Type 1} → statement M
+evaluate-case-spec =
     tie.close
     (tie.spec
     read-string-requires
     enum-known-n
-    slice-reshare-prefix-scan-on
-    slice-aggregate-scan-on
-    scan-on-requires
+    slice-reshare-prefix-evaluate-on
+    slice-aggregate-evaluate-on
+    evaluate-on-requires
     enum-told
     slice-aggregate-pass-over
     pass-over-requires

@@ -1,8 +1,15 @@
--- `cases::answer::check_case`: the file that was read is a part of what is lent.
-use Rattle.cases.specs.Fields.{held, held-part}
+use Rattle.harness.specs.Fields.{held, held-part}
+use native.Mathlib.Omega.{arith}
 use borrow.Author.Needs.{needs}
-use Rattle.cases.proofs.answer.check_case.Statement.{statement}
-use Rattle.cases.proofs.answer.check_case.Tie as tie
+use Rattle.cases.proofs.program_cases.check_case.Statement.{statement}
+use Rattle.cases.proofs.program_cases.check_case.Tie as tie
+use Rattle.cases.proofs.program_cases.check_case.Reads as reads
+use Rattle.cases.proofs.program_cases.check_case.Lts as lts
+use Rattle.cases.proofs.program_cases.say_checked.Reads as say-checked-reads
+use Rattle.harness.proofs.read.read_string.Reads as read-string-reads
+use Rattle.harness.proofs.show.cut.Reads as cut-reads
+use Rattle.harness.proofs.show.too_large.Reads as too-large-reads
+use Rattle.program.proofs.check_program.Reads as check-program-reads
 
 read-string-requires : tie.Need-read-string-requires
 read-string-requires c κs = search needs
@@ -23,32 +30,17 @@ slice-aggregate-check-program c =
 check-program-requires : tie.Need-check-program-requires
 check-program-requires c κs = search needs
 
+say-checked-requires : tie.Need-say-checked-requires
+say-checked-requires c κs = search needs
+
 enum-told : tie.Need-enum-told
 enum-told c = search needs
 
-slice-aggregate-say : tie.Need-slice-aggregate-say
-slice-aggregate-say c = search needs
-
-say-requires : tie.Need-say-requires
-say-requires c κs = search needs
-
-enum-known-x : tie.Need-enum-known-x
-enum-known-x c = search needs
-
-say-refusal-requires : tie.Need-say-refusal-requires
-say-refusal-requires c κs = search needs
+too-large-requires : tie.Need-too-large-requires
+too-large-requires c κs = search needs
 
 enum-told-2 : tie.Need-enum-told-2
 enum-told-2 c = search needs
-
-slice-aggregate-say-2 : tie.Need-slice-aggregate-say-2
-slice-aggregate-say-2 c = search needs
-
-say-requires-2 : tie.Need-say-requires-2
-say-requires-2 c κs = search needs
-
-enum-told-3 : tie.Need-enum-told-3
-enum-told-3 c = search needs
 
 cut-requires : tie.Need-cut-requires
 cut-requires c κs = search needs
@@ -71,12 +63,6 @@ same-length-3 c = search needs
 returns-3 : tie.Need-returns-3
 returns-3 c = search needs
 
-same-length-4 : tie.Need-same-length-4
-same-length-4 c = search needs
-
-returns-4 : tie.Need-returns-4
-returns-4 c = search needs
-
 pub check-case-spec : {M : Type 1} → statement M
 check-case-spec =
     tie.close
@@ -86,21 +72,14 @@ check-case-spec =
     slice-reshare-prefix-check-program
     slice-aggregate-check-program
     check-program-requires
+    say-checked-requires
     enum-told
-    slice-aggregate-say
-    say-requires
-    enum-known-x
-    say-refusal-requires
+    too-large-requires
     enum-told-2
-    slice-aggregate-say-2
-    say-requires-2
-    enum-told-3
     cut-requires
     same-length
     returns
     same-length-2
     returns-2
     same-length-3
-    returns-3
-    same-length-4
-    returns-4)
+    returns-3)

@@ -1,10 +1,10 @@
--- `cases::answer::scan_shown`: the copy has as many bytes as the storage.
+-- `cases::program_cases::scan_shown`: the copy has as many bytes as the storage.
 use mathlib.Core.Path.{sym}
 use lib.Seq.{length-take-le}
 use native.Mathlib.Omega.{arith}
 use borrow.Author.Needs.{needs}
-use Rattle.cases.proofs.answer.scan_shown.Statement.{statement}
-use Rattle.cases.proofs.answer.scan_shown.Tie as tie
+use Rattle.cases.proofs.program_cases.scan_shown.Statement.{statement}
+use Rattle.cases.proofs.program_cases.scan_shown.Tie as tie
 
 buffer-requires : tie.Need-buffer-requires
 buffer-requires c κs = search needs
