@@ -1,15 +1,8 @@
+-- `cases::program_cases::check_case`: the file that was read is a part of what is lent.
 use Rattle.harness.specs.Fields.{held, held-part}
-use native.Mathlib.Omega.{arith}
 use borrow.Author.Needs.{needs}
 use Rattle.cases.proofs.program_cases.check_case.Statement.{statement}
 use Rattle.cases.proofs.program_cases.check_case.Tie as tie
-use Rattle.cases.proofs.program_cases.check_case.Reads as reads
-use Rattle.cases.proofs.program_cases.check_case.Lts as lts
-use Rattle.cases.proofs.program_cases.say_checked.Reads as say-checked-reads
-use Rattle.harness.proofs.read.read_string.Reads as read-string-reads
-use Rattle.harness.proofs.show.cut.Reads as cut-reads
-use Rattle.harness.proofs.show.too_large.Reads as too-large-reads
-use Rattle.program.proofs.check_program.Reads as check-program-reads
 
 read-string-requires : tie.Need-read-string-requires
 read-string-requires c κs = search needs

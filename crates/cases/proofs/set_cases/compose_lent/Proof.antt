@@ -1,12 +1,10 @@
+-- `cases::set_cases::compose_lent`: so many elements of each array are lent.
 use lib.Seq.{length-take-le}
 use mathlib.Core.Path.{sym}
 use native.Mathlib.Omega.{arith}
 use borrow.Author.Needs.{needs}
 use Rattle.cases.proofs.set_cases.compose_lent.Statement.{statement}
 use Rattle.cases.proofs.set_cases.compose_lent.Tie as tie
-use Rattle.cases.proofs.set_cases.compose_lent.Reads as reads
-use Rattle.cases.proofs.set_cases.compose_lent.Lts as lts
-use Rattle.cases.proofs.set_cases.compose_shown.Reads as compose-shown-reads
 
 array-borrow-prefix-rows : tie.Need-array-borrow-prefix-rows
 array-borrow-prefix-rows c = search needs

@@ -1,14 +1,8 @@
+-- `cases::set_cases::compose_with`: the second file is a part of what is lent.
 use Rattle.harness.specs.Fields.{held, held-part}
-use native.Mathlib.Omega.{arith}
 use borrow.Author.Needs.{needs}
 use Rattle.cases.proofs.set_cases.compose_with.Statement.{statement}
 use Rattle.cases.proofs.set_cases.compose_with.Tie as tie
-use Rattle.cases.proofs.set_cases.compose_with.Reads as reads
-use Rattle.cases.proofs.set_cases.compose_with.Lts as lts
-use Rattle.cases.proofs.set_cases.compose_asked.Reads as compose-asked-reads
-use Rattle.harness.proofs.pass_over.Reads as pass-over-reads
-use Rattle.harness.proofs.read.read_string.Reads as read-string-reads
-use Rattle.harness.proofs.show.cut.Reads as cut-reads
 
 read-string-requires : tie.Need-read-string-requires
 read-string-requires c κs = search needs
@@ -17,12 +11,12 @@ enum-known-n : tie.Need-enum-known-n
 enum-known-n c = search needs
 
 slice-reshare-prefix-compose-asked : tie.Need-slice-reshare-prefix-compose-asked
-slice-reshare-prefix-compose-asked c = 
+slice-reshare-prefix-compose-asked c =
     let s = c .before .before .before .before .before .read-string in
     held (s .result) (c .before .n .given .0 .0) (s .last .0) (s .ensures) (cc) (s .kept .0)
 
 slice-aggregate-compose-asked : tie.Need-slice-aggregate-compose-asked
-slice-aggregate-compose-asked c = 
+slice-aggregate-compose-asked c =
     let s = c .before .before .before .before .before .before .read-string in
     held-part (s .result) (c .before .before .n .given .0 .0) (s .last .0) (s .ensures) (cc) (s .kept .0)
 

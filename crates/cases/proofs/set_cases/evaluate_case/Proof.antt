@@ -1,14 +1,8 @@
+-- `cases::set_cases::evaluate_case`: the file that was read is a part of what is lent.
 use Rattle.harness.specs.Fields.{held, held-part}
-use native.Mathlib.Omega.{arith}
 use borrow.Author.Needs.{needs}
 use Rattle.cases.proofs.set_cases.evaluate_case.Statement.{statement}
 use Rattle.cases.proofs.set_cases.evaluate_case.Tie as tie
-use Rattle.cases.proofs.set_cases.evaluate_case.Reads as reads
-use Rattle.cases.proofs.set_cases.evaluate_case.Lts as lts
-use Rattle.cases.proofs.set_cases.evaluate_on.Reads as evaluate-on-reads
-use Rattle.harness.proofs.pass_over.Reads as pass-over-reads
-use Rattle.harness.proofs.read.read_string.Reads as read-string-reads
-use Rattle.harness.proofs.show.cut.Reads as cut-reads
 
 read-string-requires : tie.Need-read-string-requires
 read-string-requires c κs = search needs

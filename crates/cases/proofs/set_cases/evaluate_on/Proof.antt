@@ -1,15 +1,9 @@
+-- `cases::set_cases::evaluate_on`: the storage that was read is a part of what is lent, so no longer than that.
 use Rattle.harness.specs.Fields.{held, held-part}
 use native.Mathlib.Omega.{arith}
 use borrow.Author.Needs.{needs}
 use Rattle.cases.proofs.set_cases.evaluate_on.Statement.{statement}
 use Rattle.cases.proofs.set_cases.evaluate_on.Tie as tie
-use Rattle.cases.proofs.set_cases.evaluate_on.Reads as reads
-use Rattle.cases.proofs.set_cases.evaluate_on.Lts as lts
-use Rattle.cases.proofs.set_cases.evaluate_lent.Reads as evaluate-lent-reads
-use Rattle.harness.proofs.pass_over.Reads as pass-over-reads
-use Rattle.harness.proofs.read.read_number.Reads as read-number-reads
-use Rattle.harness.proofs.read.read_string.Reads as read-string-reads
-use Rattle.harness.proofs.show.cut.Reads as cut-reads
 
 read-string-requires : tie.Need-read-string-requires
 read-string-requires c κs = search needs
