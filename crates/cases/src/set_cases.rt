@@ -1,14 +1,14 @@
 // The operations on set files. Each function here says whether to go on with the next case.
 use crate::program_cases::say_checked;
 use base::shape::Shape;
+use base::work::fill_bytes;
+use base::work::fill_numbers;
+use base::work::fill_rows;
 use compose::Composed;
 use compose::compose;
 use evaluate::evaluate;
 use evaluate::values::Evaluated;
 use harness::lent::bytes_are;
-use harness::lent::fill_bytes;
-use harness::lent::fill_numbers;
-use harness::lent::fill_rows;
 use harness::lent::numbers_are;
 use harness::lent::rows_are;
 use harness::pass_over;

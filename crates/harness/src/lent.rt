@@ -1,40 +1,6 @@
-// Fills what is lent with a pattern before an operation, and tests after it what an operation leaves.
+// Tests what an operation leaves in what it was lent.
 ghost use mathlib.Core.Path.{_≡_};
-ghost use lib.ListN.{length, replicate};
 ghost use Rattle.harness.specs.Lent.{allAre, Tells};
-
-// Fills lent bytes.
-pub fn fill_bytes(s: &mut [u8], x: u8)
-    ensures { λ _. ⌜ now (s .exit) ≡ replicate (length (now (s .entry))) x ⌝ }
-{
-    let mut i = 0;
-    while i < s.len() {
-        s[i] = x;
-        i += 1;
-    }
-}
-
-// Fills lent numbers.
-pub fn fill_numbers(s: &mut [u16], x: u16)
-    ensures { λ _. ⌜ now (s .exit) ≡ replicate (length (now (s .entry))) x ⌝ }
-{
-    let mut i = 0;
-    while i < s.len() {
-        s[i] = x;
-        i += 1;
-    }
-}
-
-// Fills lent rows.
-pub fn fill_rows(s: &mut [u64], x: u64)
-    ensures { λ _. ⌜ now (s .exit) ≡ replicate (length (now (s .entry))) x ⌝ }
-{
-    let mut i = 0;
-    while i < s.len() {
-        s[i] = x;
-        i += 1;
-    }
-}
 
 // Whether every byte is x.
 pub fn bytes_are(s: &[u8], x: u8) -> bool

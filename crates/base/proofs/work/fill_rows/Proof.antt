@@ -1,11 +1,11 @@
--- `harness::lent::fill_bytes`: each turn fills one byte.
-use Rattle.harness.specs.Lent.{Filling, filling-none, filling-more, filling-all}
+-- `harness::lent::fill_rows`: each turn fills one row.
+use Rattle.base.specs.Filling.{Filling, filling-none, filling-more, filling-all}
 use Prim.Native.Nat.{_-_}
 use lib.ListN.{length}
 use native.Mathlib.Omega.{arith}
 use borrow.Author.Needs.{needs}
-use Rattle.harness.proofs.lent.fill_bytes.Statement.{statement}
-use Rattle.harness.proofs.lent.fill_bytes.Tie as tie
+use Rattle.base.proofs.work.fill_rows.Statement.{statement}
+use Rattle.base.proofs.work.fill_rows.Tie as tie
 
 abbrev Inv-loop : tie.InvT-loop
 Inv-loop s₀ x i₀ s i = Filling s₀ s x i
@@ -15,6 +15,9 @@ abbrev μ-loop : tie.MeasureT-loop
 
 loop-holds : tie.Need-loop-holds Inv-loop μ-loop
 loop-holds c = filling-none _ _
+
+mul-s : tie.Need-mul-s Inv-loop μ-loop
+mul-s c = search needs
 
 slice-write-s : tie.Need-slice-write-s Inv-loop μ-loop
 slice-write-s c = search needs
@@ -34,13 +37,14 @@ same-length c = search needs
 returns : tie.Need-returns Inv-loop μ-loop
 returns c = filling-all _ _ _ _ (c .before .loop .inv) (omega arith)
 
-pub fill-bytes-spec : {M : Type 1} → statement M
-fill-bytes-spec =
+pub fill-rows-spec : {M : Type 1} → statement M
+fill-rows-spec =
     tie.close
     (tie.spec
     Inv-loop
     μ-loop
     loop-holds
+    mul-s
     slice-write-s
     add-i
     loop-less

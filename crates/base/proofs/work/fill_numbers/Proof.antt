@@ -1,11 +1,11 @@
--- `harness::lent::fill_rows`: each turn fills one row.
-use Rattle.harness.specs.Lent.{Filling, filling-none, filling-more, filling-all}
+-- `harness::lent::fill_numbers`: each turn fills one number.
+use Rattle.base.specs.Filling.{Filling, filling-none, filling-more, filling-all}
 use Prim.Native.Nat.{_-_}
 use lib.ListN.{length}
 use native.Mathlib.Omega.{arith}
 use borrow.Author.Needs.{needs}
-use Rattle.harness.proofs.lent.fill_rows.Statement.{statement}
-use Rattle.harness.proofs.lent.fill_rows.Tie as tie
+use Rattle.base.proofs.work.fill_numbers.Statement.{statement}
+use Rattle.base.proofs.work.fill_numbers.Tie as tie
 
 abbrev Inv-loop : tie.InvT-loop
 Inv-loop s₀ x i₀ s i = Filling s₀ s x i
@@ -37,8 +37,8 @@ same-length c = search needs
 returns : tie.Need-returns Inv-loop μ-loop
 returns c = filling-all _ _ _ _ (c .before .loop .inv) (omega arith)
 
-pub fill-rows-spec : {M : Type 1} → statement M
-fill-rows-spec =
+pub fill-numbers-spec : {M : Type 1} → statement M
+fill-numbers-spec =
     tie.close
     (tie.spec
     Inv-loop
