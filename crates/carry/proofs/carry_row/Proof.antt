@@ -15,16 +15,31 @@ add-at-2 : tie.Need-add-at-2
 add-at-2 c = search needs
 
 cast-t13 : tie.Need-cast-t13
-cast-t13 c = omega (arith, row-few _ _ _ (c .before .before .before .before .before .pre .0 .pair) _ (c .before .before .before .before .before .pre .1) _ (c .cells .ensures))
+cast-t13 c =
+    let c5 = c .before .before .before .before .before in
+    omega (arith, row-few _ _ _ (c5 .pre .0 .pair) _ (c5 .pre .1) _ (c .cells .ensures))
 
 row-in-requires : tie.Need-row-in-requires
-row-in-requires c κs = row-inside _ _ _ (c .before .before .before .before .before .pre .0 .pair) _ (c .before .before .before .before .before .pre .1) _ (c .cells .ensures)
+row-in-requires c κs =
+    let c5 = c .before .before .before .before .before in
+    row-inside _ _ _ (c5 .pre .0 .pair) _ (c5 .pre .1) _ (c .cells .ensures)
 
 renumber-requires : tie.Need-renumber-requires
-renumber-requires c κs = row-known _ _ _ (c .before .before .before .before .before .before .before .before .pre .0 .pair) _ _ _ _ (c .before .before .before .before .before .before .before .before .pre .0) (c .before .before .before .before .before .before .before .before .pre .1) (c .before .before .row-in .result) (row-place _ _ _ (c .before .before .before .before .before .before .before .before .pre .0 .pair) _ (c .before .before .before .before .before .before .before .before .pre .1) _ (c .before .before .before .cells .ensures) (c .before .before .row-in .result) (c .before .before .row-in .ensures))
+renumber-requires c κs =
+    let c3 = c .before .before .before in
+    let c8 = c3 .before .before .before .before .before in
+    row-known _ _ _ (c8 .pre .0 .pair) _ _ _ _ (c8 .pre .0) (c8 .pre .1) (c .before .before .row-in .result) (row-place _ _ _
+    (c8 .pre .0 .pair) _ (c8 .pre .1) _ (c3 .cells .ensures) (c .before .before .row-in .result)
+    (c .before .before .row-in .ensures))
 
 add-requires : tie.Need-add-requires
-add-requires c κs = new-addable _ _ _ (c .before .before .before .before .before .before .before .before .before .pre .0 .pair) _ _ _ _ (c .before .before .before .before .before .before .before .before .before .pre .0) (c .before .before .before .before .before .before .before .before .before .pre .1) (c .before .before .before .row-in .result) (row-place _ _ _ (c .before .before .before .before .before .before .before .before .before .pre .0 .pair) _ (c .before .before .before .before .before .before .before .before .before .pre .1) _ (c .before .before .before .before .cells .ensures) (c .before .before .before .row-in .result) (c .before .before .before .row-in .ensures)) (c .renumber .result) (c .renumber .ensures)
+add-requires c κs =
+    let c3 = c .before .before .before in
+    let c4 = c3 .before in
+    let c9 = c4 .before .before .before .before .before in
+    new-addable _ _ _ (c9 .pre .0 .pair) _ _ _ _ (c9 .pre .0) (c9 .pre .1) (c3 .row-in .result)
+    (row-place _ _ _ (c9 .pre .0 .pair) _ (c9 .pre .1) _ (c4 .cells .ensures) (c3 .row-in .result) (c3 .row-in .ensures))
+    (c .renumber .result) (c .renumber .ensures)
 
 mul-numbers : tie.Need-mul-numbers
 mul-numbers c = search needs
@@ -39,7 +54,15 @@ same-length-2 : tie.Need-same-length-2
 same-length-2 c = search needs
 
 returns : tie.Need-returns
-returns c = carrying-more _ _ _ (c .before .before .before .before .before .before .before .before .before .before .before .before .before .pre .0 .pair) _ _ _ _ (c .before .before .before .before .before .before .before .before .before .before .before .before .before .pre .0) (c .before .before .before .before .before .before .before .before .before .before .before .before .before .pre .1) (c .before .before .before .before .before .before .before .row-in .result) (row-place _ _ _ (c .before .before .before .before .before .before .before .before .before .before .before .before .before .pre .0 .pair) _ (c .before .before .before .before .before .before .before .before .before .before .before .before .before .pre .1) _ (c .before .before .before .before .before .before .before .before .cells .ensures) (c .before .before .before .before .before .before .before .row-in .result) (c .before .before .before .before .before .before .before .row-in .ensures)) (c .before .before .before .before .renumber .result) (c .before .before .before .before .renumber .ensures) _ _ (c .before .before .before .add .ensures) (c .before .before .before .add .kept .0)
+returns c =
+    let c3 = c .before .before .before in
+    let c4 = c3 .before in
+    let c7 = c4 .before .before .before in
+    let c8 = c7 .before in
+    let c13 = c8 .before .before .before .before .before in
+    carrying-more _ _ _ (c13 .pre .0 .pair) _ _ _ _ (c13 .pre .0) (c13 .pre .1) (c7 .row-in .result)
+    (row-place _ _ _ (c13 .pre .0 .pair) _ (c13 .pre .1) _ (c8 .cells .ensures) (c7 .row-in .result) (c7 .row-in .ensures))
+    (c4 .renumber .result) (c4 .renumber .ensures) _ _ (c3 .add .ensures) (c3 .add .kept .0)
 
 pub carry-row-spec : {M : Type 1} → statement M
 carry-row-spec =

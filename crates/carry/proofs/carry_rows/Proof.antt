@@ -12,19 +12,26 @@ use Rattle.carry.proofs.carry_rows.Tie as tie
 
 abbrev Inv-loop : tie.InvT-loop
 Inv-loop first second shape rows₀ numbers₀ count table₀ j₀ rows numbers table j =
-    Carrying first second shape rows table numbers j × (count ≡ rowsIn second) × (length rows ≡ length rows₀) × (length numbers ≡ length numbers₀)
+    Carrying first second shape rows table numbers j × (count ≡ rowsIn second)
+    × (length rows ≡ length rows₀) × (length numbers ≡ length numbers₀)
 
 abbrev μ-loop : tie.MeasureT-loop
 μ-loop first second shape rows₀ numbers₀ count table₀ j₀ rows numbers table j = count - j
 
 word-requires : tie.Need-word-requires Inv-loop μ-loop
-word-requires c κs = omega (arith, taken-header _ (c .before .before .before .before .pre .pair .two))
+word-requires c κs =
+    let c4 = c .before .before .before .before in
+    omega (arith, taken-header _ (c4 .pre .pair .two))
 
 loop-holds : tie.Need-loop-holds Inv-loop μ-loop
-loop-holds c = (c .before .before .before .before .before .pre, c .word .ensures .0, refl, refl)
+loop-holds c =
+    let c5 = c .before .before .before .before .before in
+    (c5 .pre, c .word .ensures .0, refl, refl)
 
 carry-row-requires : tie.Need-carry-row-requires Inv-loop μ-loop
-carry-row-requires c κs = (c .before .before .before .loop .inv .0, omega (arith, c .before .before .before .loop .inv .1, c .before .before .loop-test .taken))
+carry-row-requires c κs =
+    let c3 = c .before .before .before in
+    (c3 .loop .inv .0, omega (arith, c3 .loop .inv .1, c .before .before .loop-test .taken))
 
 add-j : tie.Need-add-j Inv-loop μ-loop
 add-j c = search needs
@@ -33,7 +40,15 @@ loop-less : tie.Need-loop-less Inv-loop μ-loop
 loop-less c = search needs
 
 loop-again : tie.Need-loop-again Inv-loop μ-loop
-loop-again c = (c .before .before .before .before .carry-row .ensures, c .before .before .before .before .before .before .before .before .loop .inv .1, c .before .before .before .before .carry-row .kept .1 .1 .1 .1 .0 ∙ c .before .before .before .before .before .before .before .before .loop .inv .2, c .before .before .before .before .carry-row .kept .1 .1 .1 .1 .1 .1 .0 ∙ c .before .before .before .before .before .before .before .before .loop .inv .3)
+loop-again c =
+    let c4 = c .before .before .before .before in
+    let c8 = c4 .before .before .before .before in (
+      c4 .carry-row .ensures,
+      c8 .loop .inv .1,
+      c4 .carry-row .kept .1 .1 .1 .1 .0 ∙ c8 .loop .inv .2,
+      c4 .carry-row .kept .1
+          .1 .1 .1 .1 .1 .0 ∙ c8 .loop .inv .3,
+    )
 
 same-length : tie.Need-same-length Inv-loop μ-loop
 same-length c = c .before .loop .inv .2

@@ -18,10 +18,14 @@ loop-holds : tie.Need-loop-holds Inv-loop μ-loop
 loop-holds c = (copying-none _ _, refl)
 
 cast-t9 : tie.Need-cast-t9 Inv-loop μ-loop
-cast-t9 c = omega (arith, copying-few _ _ _ _ (c .before .before .before .before .pre) _ (c .loop-test .taken))
+cast-t9 c =
+    let c4 = c .before .before .before .before in
+    omega (arith, copying-few _ _ _ _ (c4 .pre) _ (c .loop-test .taken))
 
 row-in-requires : tie.Need-row-in-requires Inv-loop μ-loop
-row-in-requires c κs = copying-inside _ _ _ _ (c .before .before .before .before .pre) _ (c .loop-test .taken)
+row-in-requires c κs =
+    let c4 = c .before .before .before .before in
+    copying-inside _ _ _ _ (c4 .pre) _ (c .loop-test .taken)
 
 entry-of-requires : tie.Need-entry-of-requires Inv-loop μ-loop
 entry-of-requires c κs = search needs
@@ -30,7 +34,10 @@ mul-rows : tie.Need-mul-rows Inv-loop μ-loop
 mul-rows c = search needs
 
 slice-write-rows : tie.Need-slice-write-rows Inv-loop μ-loop
-slice-write-rows c = omega (arith, c .before .before .before .before .before .before .pre .room, c .before .before .before .loop .inv .1, c .before .before .loop-test .taken)
+slice-write-rows c =
+    let c3 = c .before .before .before in
+    let c6 = c3 .before .before .before in
+    omega (arith, c6 .pre .room, c3 .loop .inv .1, c .before .before .loop-test .taken)
 
 add-i : tie.Need-add-i Inv-loop μ-loop
 add-i c = search needs
@@ -39,13 +46,21 @@ loop-less : tie.Need-loop-less Inv-loop μ-loop
 loop-less c = search needs
 
 loop-again : tie.Need-loop-again Inv-loop μ-loop
-loop-again c = (copying-more _ _ _ _ (c .before .before .before .before .before .before .pre) _ (c .before .before .loop-test .taken) _ (c .before .before .before .loop .inv .1) (c .before .before .before .loop .inv .0) (c .before .row-in .result) (c .before .row-in .ensures) _ (c .entry-of .ensures), rw length-set (c .before .before .before .loop .inv .1))
+loop-again c =
+    let c3 = c .before .before .before in
+    let c6 = c3 .before .before .before in (
+      copying-more _ _ _ _ (c6 .pre) _ (c .before .before .loop-test .taken) _ (c3 .loop .inv .1) (c3 .loop .inv .0)
+          (c .before .row-in .result) (c .before .row-in .ensures) _ (c .entry-of .ensures),
+      rw length-set (c3 .loop .inv .1),
+    )
 
 same-length : tie.Need-same-length Inv-loop μ-loop
 same-length c = c .before .loop .inv .1
 
 returns : tie.Need-returns Inv-loop μ-loop
-returns c = copying-all _ _ _ _ (c .before .before .before .before .pre) _ (c .before .loop .inv .1) _ (c .before .loop .inv .0) (c .loop-test .left)
+returns c =
+    let c4 = c .before .before .before .before in
+    copying-all _ _ _ _ (c4 .pre) _ (c .before .loop .inv .1) _ (c .before .loop .inv .0) (c .loop-test .left)
 
 pub copy-rows-spec : {M : Type 1} → statement M
 copy-rows-spec =

@@ -24,7 +24,15 @@ same-length-3 : tie.Need-same-length-3
 same-length-3 c = search needs
 
 returns : tie.Need-returns
-returns c = (c .before .before .before .before .before .before .before .before .before .before .before .before .before .before .compose-checked .ensures, (c .before .before .before .before .before .before .clear-rows .ensures ∙ ap (λ n. replicate n 0) (c .before .before .before .before .before .before .before .before .before .before .before .before .before .before .compose-checked .kept .1 .1 .0), c .before .before .clear-numbers .ensures ∙ ap (λ n. replicate n 0) (c .before .before .before .before .before .before .before .before .before .before .before .before .before .before .compose-checked .kept .1 .1 .1 .0)))
+returns c =
+    let c6 = c .before .before .before .before .before .before in
+    let c14 = c6 .before .before .before .before .before .before .before .before in (
+      c14 .compose-checked .ensures,
+      (
+        c6 .clear-rows .ensures ∙ ap (λ n. replicate n 0) (c14 .compose-checked .kept .1 .1 .0),
+        c .before .before .clear-numbers .ensures ∙ ap (λ n. replicate n 0) (c14 .compose-checked .kept .1 .1 .1 .0),
+      ),
+    )
 
 pub compose-spec : {M : Type 1} → statement M
 compose-spec =

@@ -23,7 +23,11 @@ same-length-3 : tie.Need-same-length-3
 same-length-3 c = search needs
 
 returns : tie.Need-returns
-returns c = composes-length _ _ _ _ _ (c .before .before .before .before .before .before .before .before .before .before .before .before .before .before .before .before .before .before .pre .0) (c .before .before .before .before .before .before .before .before .before .before .before .before .before .before .before .before .before .before .pre .1) (c .before .before .before .before .before .before .before .before .before .compose-accepted .result) _ (c .before .before .before .before .before .before .before .before .before .compose-accepted .ensures) _ (c .before .n .given .1)
+returns c =
+    let c9 = c .before .before .before .before .before .before .before .before .before in
+    let c18 = c9 .before .before .before .before .before .before .before .before .before in
+    composes-length _ _ _ _ _ (c18 .pre .0) (c18 .pre .1) (c9 .compose-accepted .result) _ (c9 .compose-accepted .ensures) _
+    (c .before .n .given .1)
 
 same-length-4 : tie.Need-same-length-4
 same-length-4 c = search needs
@@ -35,7 +39,11 @@ same-length-6 : tie.Need-same-length-6
 same-length-6 c = search needs
 
 returns-2 : tie.Need-returns-2
-returns-2 c = composes-refused _ _ _ _ _ (c .before .before .before .before .before .before .before .before .before .before .before .before .before .before .before .before .before .before .pre .0) (c .before .before .before .before .before .before .before .before .before .before .before .before .before .before .before .before .before .before .pre .1) (c .before .before .before .before .before .before .before .before .before .compose-accepted .result) _ (c .before .before .before .before .before .before .before .before .before .compose-accepted .ensures) _ (c .before .x .given .1)
+returns-2 c =
+    let c9 = c .before .before .before .before .before .before .before .before .before in
+    let c18 = c9 .before .before .before .before .before .before .before .before .before in
+    composes-refused _ _ _ _ _ (c18 .pre .0) (c18 .pre .1) (c9 .compose-accepted .result) _ (c9 .compose-accepted .ensures) _
+    (c .before .x .given .1)
 
 pub compose-both-spec : {M : Type 1} → statement M
 compose-both-spec =

@@ -19,7 +19,15 @@ enum-told-2 : tie.Need-enum-told-2
 enum-told-2 c = search needs
 
 compose-both-requires : tie.Need-compose-both-requires
-compose-both-requires c κs = (set-accepted _ (c .before .before .before .before .before .before .before .before .check-set .result) (c .before .before .before .before .before .before .before .before .check-set .ensures) (c .before .before .before .before .before .before .enum-told .given .1), set-accepted _ (c .before .before .before .before .before .check-set2 .result) (c .before .before .before .before .before .check-set2 .ensures) (c .before .before .before .enum-told2 .given .1))
+compose-both-requires c κs =
+    let c3 = c .before .before .before in
+    let c5 = c3 .before .before in
+    let c6 = c5 .before in
+    let c8 = c6 .before .before in (
+      set-accepted _ (c8 .check-set .result) (c8 .check-set .ensures) (c6 .enum-told .given .1),
+      set-accepted _
+          (c5 .check-set2 .result) (c5 .check-set2 .ensures) (c3 .enum-told2 .given .1),
+    )
 
 enum-known-x : tie.Need-enum-known-x
 enum-known-x c = search needs
@@ -40,10 +48,17 @@ returns : tie.Need-returns
 returns c = search needs
 
 returns-2 : tie.Need-returns-2
-returns-2 c = second-refused _ _ _ _ _ (set-accepted _ (c .before .before .before .before .before .before .check-set .result) (c .before .before .before .before .before .before .check-set .ensures) (c .before .before .before .before .enum-told .given .1)) _ (set-refused _ _ _ (sym (rw (c .before .x .given .1) at (c .before .before .before .check-set2 .ensures))))
+returns-2 c =
+    let c3 = c .before .before .before in
+    let c4 = c3 .before in
+    let c6 = c4 .before .before in
+    second-refused _ _ _ _ _ (set-accepted _ (c6 .check-set .result) (c6 .check-set .ensures) (c4 .enum-told .given .1)) _
+    (set-refused _ _ _ (sym (rw (c .before .x .given .1) at (c3 .check-set2 .ensures))))
 
 returns-3 : tie.Need-returns-3
-returns-3 c = first-refused _ _ _ _ _ _ (set-refused _ _ _ (sym (rw (c .before .x2 .given .1) at (c .before .before .before .check-set .ensures))))
+returns-3 c =
+    let c3 = c .before .before .before in
+    first-refused _ _ _ _ _ _ (set-refused _ _ _ (sym (rw (c .before .x2 .given .1) at (c3 .check-set .ensures))))
 
 pub compose-checked-spec : {M : Type 1} → statement M
 compose-checked-spec =

@@ -18,7 +18,12 @@ same-length-2 : tie.Need-same-length-2
 same-length-2 c = search needs
 
 returns : tie.Need-returns
-returns c = (c .before .before .before .before .before .before .before .before .evaluate-checked .ensures, c .before .before .clear-bytes .ensures ∙ ap (λ n. replicate n 0) (c .before .before .before .before .before .before .before .before .evaluate-checked .kept .1 .1 .0))
+returns c =
+    let c8 = c .before .before .before .before .before .before .before .before in (
+      c8 .evaluate-checked .ensures,
+      c .before .before .clear-bytes .ensures ∙ ap (λ n. replicate n 0)
+          (c8 .evaluate-checked .kept .1 .1 .0),
+    )
 
 pub evaluate-spec : {M : Type 1} → statement M
 evaluate-spec =

@@ -13,7 +13,9 @@ enum-told : tie.Need-enum-told
 enum-told c = search needs
 
 evaluate-accepted-requires : tie.Need-evaluate-accepted-requires
-evaluate-accepted-requires c κs = set-accepted _ (c .before .before .before .before .check-set .result) (c .before .before .before .before .check-set .ensures) (c .before .before .enum-told .given .1)
+evaluate-accepted-requires c κs =
+    let c4 = c .before .before .before .before in
+    set-accepted _ (c4 .check-set .result) (c4 .check-set .ensures) (c .before .before .enum-told .given .1)
 
 enum-known-x : tie.Need-enum-known-x
 enum-known-x c = search needs
@@ -28,7 +30,9 @@ returns : tie.Need-returns
 returns c = search needs
 
 returns-2 : tie.Need-returns-2
-returns-2 c = evaluate-unread _ _ _ _ (set-refused _ _ _ (sym (rw (c .before .x .given .1) at (c .before .before .before .check-set .ensures))))
+returns-2 c =
+    let c3 = c .before .before .before in
+    evaluate-unread _ _ _ _ (set-refused _ _ _ (sym (rw (c .before .x .given .1) at (c3 .check-set .ensures))))
 
 pub evaluate-checked-spec : {M : Type 1} → statement M
 evaluate-checked-spec =

@@ -9,10 +9,20 @@ use Rattle.compose.proofs.pair.compose_pair.Statement.{statement}
 use Rattle.compose.proofs.pair.compose_pair.Tie as tie
 
 copy-rows-requires : tie.Need-copy-rows-requires
-copy-rows-requires c κs = record { taken = (c .before .before .before .before .before .before .pre .pair) .one; shaped = (c .before .before .before .before .before .before .pre .pair) .shaped; whole = c .before .before .before .before .before .before .pre .whole; room = omega (arith, c .before .before .before .before .before .before .pre .whole, c .before .before .before .before .before .before .pre .ready .rows-lent) }
+copy-rows-requires c κs =
+    let p = c .before .before .before .before .before .before .pre in
+    record {
+      taken = p .pair .one;
+      shaped = p .pair .shaped;
+      whole = p .whole;
+      room = omega (arith, p .whole, p .ready .rows-lent);
+    }
 
 carry-rows-requires : tie.Need-carry-rows-requires
-carry-rows-requires c κs = carrying-start _ _ _ (c .before .before .before .before .before .before .before .before .before .before .before .pre .pair) _ _ _ (c .before .before .before .before .copy-rows .ensures) (omega (arith, c .before .before .before .before .before .before .before .before .before .before .before .pre .ready .numbers-lent))
+carry-rows-requires c κs =
+    let c4 = c .before .before .before .before in
+    let c11 = c4 .before .before .before .before .before .before .before in
+    carrying-start _ _ _ (c11 .pre .pair) _ _ _ (c4 .copy-rows .ensures) (omega (arith, c11 .pre .ready .numbers-lent))
 
 room-in-requires : tie.Need-room-in-requires
 room-in-requires c κs = search needs
@@ -28,20 +38,28 @@ same-length-2 c = search needs
 
 returns : tie.Need-returns
 returns c =
-    let p = c .before .before .before .before .before .before .before .before .before .before .before .before .before .before .before .before .before .before .pre in
-    let g = c .before .before .before .before .before .before .carry-rows .ensures in
-    let rows = c .before .before .before .before .before .before .carry-rows .kept .1 .1 .1 .0 ∙ c .before .before .before .before .before .before .before .before .before .before .before .copy-rows .kept .1 .1 .1 .0 in
-    let numbers = c .before .before .before .before .before .before .carry-rows .kept .1 .1 .1 .1 .1 .0 in
+    let c6 = c .before .before .before .before .before .before in
+    let c11 = c6 .before .before .before .before .before in
+    let c18 = c11 .before .before .before .before .before .before .before in
+    let p = c18 .pre in
+    let g = c6 .carry-rows .ensures in
+    let rows = c6 .carry-rows .kept .1 .1 .1 .0 ∙ c11 .copy-rows .kept .1 .1 .1 .0 in
+    let numbers = c6 .carry-rows .kept .1 .1 .1 .1 .1 .0 in
     let over = composed-holds _ _ _ (p .pair) _ _ _ g .over (c .before .if1 .taken) in
-    table-full _ _ _ _ _ (p .pair .one) (p .pair .two) (p .pair .same) (p .ready) (rw rows at over) _ (c .room-in .ensures ∙ ap room rows)
+    table-full _ _ _ _ _ (p .pair .one) (p .pair .two) (p .pair .same) (p .ready) (rw rows at over) _
+    (c .room-in .ensures ∙ ap room rows)
 
 write-composed-requires : tie.Need-write-composed-requires
 write-composed-requires c κs =
-    let p = c .before .before .before .before .before .before .before .before .before .before .before .before .before .before .before .before .before .before .before .before .pre in
-    let g = c .before .before .before .before .before .before .before .before .carry-rows .ensures in
-    let rows = c .before .before .before .before .before .before .before .before .carry-rows .kept .1 .1 .1 .0 ∙ c .before .before .before .before .before .before .before .before .before .before .before .before .before .copy-rows .kept .1 .1 .1 .0 in
-    let numbers = c .before .before .before .before .before .before .before .before .carry-rows .kept .1 .1 .1 .1 .1 .0 in
-    record { carrying = g; ready = rw (rows, numbers) (p .ready); kept = c .before .before .before .if1 .left }
+    let c3 = c .before .before .before in
+    let c8 = c3 .before .before .before .before .before in
+    let c13 = c8 .before .before .before .before .before in
+    let c20 = c13 .before .before .before .before .before .before .before in
+    let p = c20 .pre in
+    let g = c8 .carry-rows .ensures in
+    let rows = c8 .carry-rows .kept .1 .1 .1 .0 ∙ c13 .copy-rows .kept .1 .1 .1 .0 in
+    let numbers = c8 .carry-rows .kept .1 .1 .1 .1 .1 .0 in
+    record { carrying = g; ready = rw (rows, numbers) (p .ready); kept = c3 .if1 .left }
 
 same-length-3 : tie.Need-same-length-3
 same-length-3 c = search needs
@@ -54,11 +72,15 @@ same-length-5 c = search needs
 
 returns-2 : tie.Need-returns-2
 returns-2 c =
-    let p = c .before .before .before .before .before .before .before .before .before .before .before .before .before .before .before .before .before .before .before .before .before .before .before .before .before .pre in
-    let g = c .before .before .before .before .before .before .before .before .before .before .before .before .before .carry-rows .ensures in
-    let rows = c .before .before .before .before .before .before .before .before .before .before .before .before .before .carry-rows .kept .1 .1 .1 .0 ∙ c .before .before .before .before .before .before .before .before .before .before .before .before .before .before .before .before .before .before .copy-rows .kept .1 .1 .1 .0 in
-    let numbers = c .before .before .before .before .before .before .before .before .before .before .before .before .before .carry-rows .kept .1 .1 .1 .1 .1 .0 in
-    rw (rows, numbers) at (c .before .before .before .before .write-composed .ensures)
+    let c4 = c .before .before .before .before in
+    let c13 = c4 .before .before .before .before .before .before .before .before .before in
+    let c18 = c13 .before .before .before .before .before in
+    let c25 = c18 .before .before .before .before .before .before .before in
+    let p = c25 .pre in
+    let g = c13 .carry-rows .ensures in
+    let rows = c13 .carry-rows .kept .1 .1 .1 .0 ∙ c18 .copy-rows .kept .1 .1 .1 .0 in
+    let numbers = c13 .carry-rows .kept .1 .1 .1 .1 .1 .0 in
+    rw (rows, numbers) at (c4 .write-composed .ensures)
 
 pub compose-pair-spec : {M : Type 1} → statement M
 compose-pair-spec =

@@ -4,13 +4,21 @@ use Rattle.compose.proofs.pair.same_shape.Statement.{statement}
 use Rattle.compose.proofs.pair.same_shape.Tie as tie
 
 returns : tie.Need-returns
-returns c = rw (eq-eqb _ _ (c .before .before .before .before .before .before .before .before .if1 .taken), eq-eqb _ _ (c .before .before .before .before .before .if2 .taken), eq-eqb _ _ (c .before .before .if3 .taken))
+returns c =
+    let c5 = c .before .before .before .before .before in
+    let c8 = c5 .before .before .before in
+    rw (eq-eqb _ _ (c8 .if1 .taken), eq-eqb _ _ (c5 .if2 .taken), eq-eqb _ _ (c .before .before .if3 .taken))
 
 returns-2 : tie.Need-returns-2
-returns-2 c = rw (eq-eqb _ _ (c .before .before .before .before .before .before .if1 .taken), eq-eqb _ _ (c .before .before .before .if2 .taken), ne-eqb _ _ (c .if3 .left))
+returns-2 c =
+    let c3 = c .before .before .before in
+    let c6 = c3 .before .before .before in
+    rw (eq-eqb _ _ (c6 .if1 .taken), eq-eqb _ _ (c3 .if2 .taken), ne-eqb _ _ (c .if3 .left))
 
 returns-3 : tie.Need-returns-3
-returns-3 c = rw (eq-eqb _ _ (c .before .before .before .if1 .taken), ne-eqb _ _ (c .if2 .left))
+returns-3 c =
+    let c3 = c .before .before .before in
+    rw (eq-eqb _ _ (c3 .if1 .taken), ne-eqb _ _ (c .if2 .left))
 
 returns-4 : tie.Need-returns-4
 returns-4 c = rw (ne-eqb _ _ (c .if1 .left))

@@ -11,13 +11,24 @@ cells-requires : tie.Need-cells-requires
 cells-requires c κs = search needs
 
 array-borrow-prefix-heads : tie.Need-array-borrow-prefix-heads
-array-borrow-prefix-heads c = omega (arith, cells-most _ _ _ _ _ _ (c .before .before .before .before .before .before .before .pre), c .before .cells .ensures)
+array-borrow-prefix-heads c =
+    let c7 = c .before .before .before .before .before .before .before in
+    omega (arith, cells-most _ _ _ _ _ _ (c7 .pre), c .before .cells .ensures)
 
 slice-aggregate-write-moved : tie.Need-slice-aggregate-write-moved
-slice-aggregate-write-moved c = sym (length-take-le (c .before .before .cells .result) _ (omega (arith, cells-most _ _ _ _ _ _ (c .before .before .before .before .before .before .before .before .pre), c .before .before .cells .ensures)))
+slice-aggregate-write-moved c =
+    let c8 = c .before .before .before .before .before .before .before .before in
+    sym (length-take-le (c .before .before .cells .result) _
+    (omega (arith, cells-most _ _ _ _ _ _ (c8 .pre), c .before .before .cells .ensures)))
 
 write-moved-requires : tie.Need-write-moved-requires
-write-moved-requires c κs = (c .before .before .before .before .before .before .before .before .before .pre, length-take-le (c .before .before .before .cells .result) _ (omega (arith, cells-most _ _ _ _ _ _ (c .before .before .before .before .before .before .before .before .before .pre), c .before .before .before .cells .ensures)) ∙ c .before .before .before .cells .ensures)
+write-moved-requires c κs =
+    let c3 = c .before .before .before in
+    let c9 = c3 .before .before .before .before .before .before in (
+      c9 .pre,
+      length-take-le (c3 .cells .result) _ (omega (arith, cells-most _ _ _ _ _ _ (c9 .pre), c3 .cells .ensures)) ∙ c3
+          .cells .ensures,
+    )
 
 same-length : tie.Need-same-length
 same-length c = search needs

@@ -19,7 +19,13 @@ enum-told : tie.Need-enum-told
 enum-told c = search needs
 
 evaluate-on-requires : tie.Need-evaluate-on-requires
-evaluate-on-requires c κs = evaluable _ _ 0 (c .before .before .before .before .before .before .before .before .before .before .before .pre) _ (c .before .before .before .before .before .cells .ensures ∙ ap cells (c .before .before .before .before .before .before .shape-at .ensures)) (rw (c .before .before .enum-told .given .1) at (c .before .before .before .before .check-cells .ensures))
+evaluate-on-requires c κs =
+    let c4 = c .before .before .before .before in
+    let c5 = c4 .before in
+    let c6 = c5 .before in
+    let c11 = c6 .before .before .before .before .before in
+    evaluable _ _ 0 (c11 .pre) _ (c5 .cells .ensures ∙ ap cells (c6 .shape-at .ensures))
+    (rw (c .before .before .enum-told .given .1) at (c4 .check-cells .ensures))
 
 enum-known-x : tie.Need-enum-known-x
 enum-known-x c = search needs
@@ -37,7 +43,13 @@ same-length-3 : tie.Need-same-length-3
 same-length-3 c = search needs
 
 returns-2 : tie.Need-returns-2
-returns-2 c = evaluate-unfit _ _ _ (c .before .before .before .before .before .before .before .before .before .before .pre) _ (c .before .before .before .before .cells .ensures ∙ ap cells (c .before .before .before .before .before .shape-at .ensures)) _ (rw (c .before .x .given .1) at (c .before .before .before .check-cells .ensures))
+returns-2 c =
+    let c3 = c .before .before .before in
+    let c4 = c3 .before in
+    let c5 = c4 .before in
+    let c10 = c5 .before .before .before .before .before in
+    evaluate-unfit _ _ _ (c10 .pre) _ (c4 .cells .ensures ∙ ap cells (c5 .shape-at .ensures)) _
+    (rw (c .before .x .given .1) at (c3 .check-cells .ensures))
 
 pub evaluate-accepted-spec : {M : Type 1} → statement M
 evaluate-accepted-spec =

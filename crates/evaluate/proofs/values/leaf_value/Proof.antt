@@ -12,13 +12,17 @@ cast-result : tie.Need-cast-result
 cast-result c = search needs
 
 returns : tie.Need-returns
-returns c = leaf-low (now (c .before .before .before .args .storage)) _ (c .before .if1 .taken)
+returns c =
+    let c3 = c .before .before .before in
+    leaf-low (now (c3 .args .storage)) _ (c .before .if1 .taken)
 
 shared-slice-read-result : tie.Need-shared-slice-read-result
 shared-slice-read-result c = search needs
 
 returns-2 : tie.Need-returns-2
-returns-2 c = leaf-high (now (c .before .before .before .args .storage)) _ (c .before .if1 .left)
+returns-2 c =
+    let c3 = c .before .before .before in
+    leaf-high (now (c3 .args .storage)) _ (c .before .if1 .left)
 
 pub leaf-value-spec : {M : Type 1} → statement M
 leaf-value-spec =

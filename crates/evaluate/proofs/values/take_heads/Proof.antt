@@ -17,19 +17,35 @@ abbrev μ-loop : tie.MeasureT-loop
 μ-loop file storage₀ values c₀ storage c = length storage₀ - c
 
 loop-holds : tie.Need-loop-holds Inv-loop μ-loop
-loop-holds c = heads-none _ _ (c .before .before .before .pre .0 .0)
+loop-holds c =
+    let c3 = c .before .before .before in
+    heads-none _ _ (c3 .pre .0 .0)
 
 cast-t9 : tie.Need-cast-t9 Inv-loop μ-loop
-cast-t9 c = omega (arith, (c .before .before .before .before .before .pre .0 .0) .accepted .room, (c .before .before .before .before .before .pre .0 .0) .stored .size, c .before .loop .inv .size, c .loop-test .taken)
+cast-t9 c =
+    let c5 = c .before .before .before .before .before in
+    omega
+    (arith, (c5 .pre .0 .0) .accepted .room, (c5 .pre .0 .0) .stored .size, c .before .loop .inv .size, c .loop-test .taken)
 
 head-in-requires : tie.Need-head-in-requires Inv-loop μ-loop
-head-in-requires c κs = head-there _ _ (c .before .before .before .before .before .pre .0 .0) _ (omega (arith, c .before .loop .inv .size, c .loop-test .taken))
+head-in-requires c κs =
+    let c5 = c .before .before .before .before .before in
+    head-there _ _ (c5 .pre .0 .0) _ (omega (arith, c .before .loop .inv .size, c .loop-test .taken))
 
 cast-at : tie.Need-cast-at Inv-loop μ-loop
 cast-at c = search needs
 
 shared-slice-read-storage : tie.Need-shared-slice-read-storage Inv-loop μ-loop
-shared-slice-read-storage c = omega (arith, head-low _ _ (c .before .before .before .before .before .before .before .before .pre .0 .0) _ _ (omega (arith, c .before .before .before .before .loop .inv .size, c .before .before .before .loop-test .taken)) (c .before .before .head-in .ensures), c .before .before .before .before .before .before .before .before .pre .0 .1)
+shared-slice-read-storage c =
+    let c3 = c .before .before .before in
+    let c4 = c3 .before in
+    let c8 = c4 .before .before .before .before in
+    omega (
+      arith,
+      head-low _ _ (c8 .pre .0 .0) _ _ (omega (arith, c4 .loop .inv .size, c3 .loop-test .taken))
+          (c .before .before .head-in .ensures),
+      c8 .pre .0 .1,
+    )
 
 slice-write-storage : tie.Need-slice-write-storage Inv-loop μ-loop
 slice-write-storage c = search needs
@@ -38,16 +54,26 @@ add-c : tie.Need-add-c Inv-loop μ-loop
 add-c c = search needs
 
 loop-less : tie.Need-loop-less Inv-loop μ-loop
-loop-less c = omega (arith, c .before .before .before .before .loop .inv .size, c .before .before .before .loop-test .taken)
+loop-less c =
+    let c3 = c .before .before .before in
+    let c4 = c3 .before in
+    omega (arith, c4 .loop .inv .size, c3 .loop-test .taken)
 
 loop-again : tie.Need-loop-again Inv-loop μ-loop
-loop-again c = heads-more _ _ (c .before .before .before .before .before .before .before .before .pre .0 .0) (now (c .before .before .before .before .before .before .before .before .args .values)) _ _ _ (c .before .before .before .before .before .before .before .before .pre .1) (c .before .before .before .before .loop .inv) (omega (arith, c .before .before .before .before .loop .inv .size, c .before .before .before .loop-test .taken)) (c .before .before .head-in .ensures)
+loop-again c =
+    let c3 = c .before .before .before in
+    let c4 = c3 .before in
+    let c8 = c4 .before .before .before .before in
+    heads-more _ _ (c8 .pre .0 .0) (now (c8 .args .values)) _ _ _ (c8 .pre .1) (c4 .loop .inv)
+    (omega (arith, c4 .loop .inv .size, c3 .loop-test .taken)) (c .before .before .head-in .ensures)
 
 same-length : tie.Need-same-length Inv-loop μ-loop
 same-length c = c .before .loop .inv .size
 
 returns : tie.Need-returns Inv-loop μ-loop
-returns c = heads-all _ _ (c .before .before .before .before .before .pre .0 .0) _ _ (c .before .loop .inv) (omega (arith, c .before .loop .inv .size, c .loop-test .left))
+returns c =
+    let c5 = c .before .before .before .before .before in
+    heads-all _ _ (c5 .pre .0 .0) _ _ (c .before .loop .inv) (omega (arith, c .before .loop .inv .size, c .loop-test .left))
 
 pub take-heads-spec : {M : Type 1} → statement M
 take-heads-spec =

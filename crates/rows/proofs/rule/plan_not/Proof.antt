@@ -21,13 +21,20 @@ enum-told-2 : tie.Need-enum-told-2
 enum-told-2 c = search needs
 
 returns-3 : tie.Need-returns-3
-returns-3 c = not-leaf _ _ _ (ap nodeRow (c .enum-told .given .1)) (c .before .before .before .before .if1 .left) (c .before .before .if2 .left)
+returns-3 c =
+    let c4 = c .before .before .before .before in
+    not-leaf _ _ _ (ap nodeRow (c .enum-told .given .1)) (c4 .if1 .left) (c .before .before .if2 .left)
 
 returns-4 : tie.Need-returns-4
-returns-4 c = not-not _ _ _ (cc) (c .before .before .before .before .before .if1 .left) (c .before .before .before .if2 .left)
+returns-4 c =
+    let c3 = c .before .before .before in
+    let c5 = c3 .before .before in
+    not-not _ _ _ (cc) (c5 .if1 .left) (c3 .if2 .left)
 
 returns-5 : tie.Need-returns-5
-returns-5 c = not-bin _ _ _ _ _ (ap nodeRow (c .enum-told2 .given .1)) (c .before .before .before .before .if1 .left) (c .before .before .if2 .left)
+returns-5 c =
+    let c4 = c .before .before .before .before in
+    not-bin _ _ _ _ _ (ap nodeRow (c .enum-told2 .given .1)) (c4 .if1 .left) (c .before .before .if2 .left)
 
 pub plan-not-spec : {M : Type 1} → statement M
 plan-not-spec =

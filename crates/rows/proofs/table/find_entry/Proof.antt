@@ -25,7 +25,9 @@ shared-slice-read-if1 : tie.Need-shared-slice-read-if1 Inv-loop μ-loop
 shared-slice-read-if1 c = search needs
 
 returns : tie.Need-returns Inv-loop μ-loop
-returns c = searching-hit _ _ (c .before .before .before .loop .inv .0) (omega arith) (eq-eqb _ _ (c .if1 .taken))
+returns c =
+    let c3 = c .before .before .before in
+    searching-hit _ _ (c3 .loop .inv .0) (omega arith) (eq-eqb _ _ (c .if1 .taken))
 
 add-i : tie.Need-add-i Inv-loop μ-loop
 add-i c = search needs
@@ -34,7 +36,9 @@ loop-less : tie.Need-loop-less Inv-loop μ-loop
 loop-less c = search needs
 
 loop-again : tie.Need-loop-again Inv-loop μ-loop
-loop-again c = (searching-more _ (c .before .before .before .loop .inv .0) (ne-eqb _ _ (c .if1 .left)), search needs)
+loop-again c =
+    let c3 = c .before .before .before in
+    (searching-more _ (c3 .loop .inv .0) (ne-eqb _ _ (c .if1 .left)), search needs)
 
 returns-2 : tie.Need-returns-2 Inv-loop μ-loop
 returns-2 c = searching-end _ _ (c .before .loop .inv .0) (omega arith)

@@ -11,7 +11,9 @@ enum-known-node-2 : tie.Need-enum-known-node-2
 enum-known-node-2 c = search needs
 
 node-at-requires : tie.Need-node-at-requires
-node-at-requires c κs = below-not _ _ _ (c .before .node2 .given .1) (c .before .before .before .before .pre)
+node-at-requires c κs =
+    let c4 = c .before .before .before .before in
+    below-not _ _ _ (c .before .node2 .given .1) (c4 .pre)
 
 plan-not-requires : tie.Need-plan-not-requires
 plan-not-requires c κs = search needs
@@ -26,10 +28,17 @@ returns : tie.Need-returns
 returns c = cc
 
 returns-2 : tie.Need-returns-2
-returns-2 c = plan-of-not _ _ (c .before .node-at .result) (now (c .before .before .before .before .before .before .args .rows)) (c .before .before .before .node2 .given .1) (c .before .node-at .ensures) (c .plan-not .result) (c .plan-not .ensures)
+returns-2 c =
+    let c3 = c .before .before .before in
+    let c6 = c3 .before .before .before in
+    plan-of-not _ _ (c .before .node-at .result) (now (c6 .args .rows)) (c3 .node2 .given .1) (c .before .node-at .ensures)
+    (c .plan-not .result) (c .plan-not .ensures)
 
 returns-3 : tie.Need-returns-3
-returns-3 c = plan-of-two _ _ _ _ (now (c .before .before .before .before .before .args .rows)) (c .before .before .node3 .given .1) (c .plan-two .result) (c .plan-two .ensures)
+returns-3 c =
+    let c5 = c .before .before .before .before .before in
+    plan-of-two _ _ _ _ (now (c5 .args .rows)) (c .before .before .node3 .given .1) (c .plan-two .result)
+    (c .plan-two .ensures)
 
 pub plan-node-spec : {M : Type 1} → statement M
 plan-node-spec =

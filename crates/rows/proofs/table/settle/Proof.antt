@@ -21,8 +21,12 @@ add-find-entry c = search needs
 
 find-entry-requires : tie.Need-find-entry-requires
 find-entry-requires c κs =
-    let p = c .before .before .before .before .before .pre in
-    (omega (arith, last-low _ (nodeRow (c .before .before .before .before .before .args .node)) (p .ready), c .before .before .last-operand .ensures), omega (arith, p .held))
+    let c5 = c .before .before .before .before .before in
+    let p = c5 .pre in (
+      omega (arith, last-low _ (nodeRow (c5 .args .node)) (p .ready), c .before .before .last-operand .ensures),
+      omega
+          (arith, p .held),
+    )
 
 cast-t12 : tie.Need-cast-t12
 cast-t12 c = search needs
@@ -31,19 +35,35 @@ same-length : tie.Need-same-length
 same-length c = search needs
 
 returns : tie.Need-returns
-returns c = settle-stood _ _ (c .before .before .before .before .before .before .before .args .node) _ _ _ (c .before .before .before .before .before .entry-of .ensures) (c .before .before .before .before .last-operand .ensures) (c .before .find-entry .ensures) (c .if1 .taken)
+returns c =
+    let c4 = c .before .before .before .before in
+    let c5 = c4 .before in
+    let c7 = c5 .before .before in
+    settle-stood _ _ (c7 .args .node) _ _ _ (c5 .entry-of .ensures) (c4 .last-operand .ensures)
+    (c .before .find-entry .ensures) (c .if1 .taken)
 
 same-length-2 : tie.Need-same-length-2
 same-length-2 c = search needs
 
 returns-2 : tie.Need-returns-2
-returns-2 c = settle-full _ _ (c .before .before .before .before .before .before .before .before .args .node) _ _ _ (c .before .before .before .before .before .before .entry-of .ensures) (c .before .before .before .before .before .last-operand .ensures) (c .before .before .find-entry .ensures) (c .before .if1 .left) (omega (arith, c .if2 .taken))
+returns-2 c =
+    let c5 = c .before .before .before .before .before in
+    let c6 = c5 .before in
+    let c8 = c6 .before .before in
+    settle-full _ _ (c8 .args .node) _ _ _ (c6 .entry-of .ensures) (c5 .last-operand .ensures)
+    (c .before .before .find-entry .ensures) (c .before .if1 .left) (omega (arith, c .if2 .taken))
 
 same-length-3 : tie.Need-same-length-3
 same-length-3 c = search needs
 
 returns-3 : tie.Need-returns-3
-returns-3 c = settle-full _ _ (c .before .before .before .before .before .before .before .before .before .args .node) _ _ _ (c .before .before .before .before .before .before .before .entry-of .ensures) (c .before .before .before .before .before .before .last-operand .ensures) (c .before .before .before .find-entry .ensures) (c .before .before .if1 .left) (omega (arith, c .if3 .taken))
+returns-3 c =
+    let c3 = c .before .before .before in
+    let c6 = c3 .before .before .before in
+    let c7 = c6 .before in
+    let c9 = c7 .before .before in
+    settle-full _ _ (c9 .args .node) _ _ _ (c7 .entry-of .ensures) (c6 .last-operand .ensures) (c3 .find-entry .ensures)
+    (c .before .before .if1 .left) (omega (arith, c .if3 .taken))
 
 mul-rows : tie.Need-mul-rows
 mul-rows c = search needs
@@ -61,7 +81,13 @@ same-length-4 : tie.Need-same-length-4
 same-length-4 c = search needs
 
 returns-4 : tie.Need-returns-4
-returns-4 c = settle-append _ _ (c .before .before .before .before .before .before .before .before .before .args .node) _ _ _ (c .before .before .before .before .before .before .before .entry-of .ensures) (c .before .before .before .before .before .before .last-operand .ensures) (c .before .before .before .find-entry .ensures) (c .before .before .if1 .left) (omega (arith, c .before .if2 .left, c .if3 .left))
+returns-4 c =
+    let c3 = c .before .before .before in
+    let c6 = c3 .before .before .before in
+    let c7 = c6 .before in
+    let c9 = c7 .before .before in
+    settle-append _ _ (c9 .args .node) _ _ _ (c7 .entry-of .ensures) (c6 .last-operand .ensures) (c3 .find-entry .ensures)
+    (c .before .before .if1 .left) (omega (arith, c .before .if2 .left, c .if3 .left))
 
 pub settle-spec : {M : Type 1} → statement M
 settle-spec =
