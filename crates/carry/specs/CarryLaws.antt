@@ -63,7 +63,8 @@ noted-at first sh numbers i C e h l = rw e (number-noted first (leaves sh) numbe
 -- ---- nodes by their case
 
 module _ (n : Node) (first : List ℕ) (l : ℕ) (numbers : List ℕ) where
-  pub known-not : (a : K.Row) → n ≡ Not a → Operands (Known first l (length numbers)) (nodeRow n) → Known first l (length numbers) (a .0)
+  pub known-not : (a : K.Row) → n ≡ Not a → Operands (Known first l (length numbers)) (nodeRow n)
+      → Known first l (length numbers) (a .0)
   known-not a e h = rw e at h
 
   pub known-two : (o : Bool) (a b : K.Row) → n ≡ Two o a b → Operands (Known first l (length numbers)) (nodeRow n)
@@ -73,7 +74,8 @@ module _ (n : Node) (first : List ℕ) (l : ℕ) (numbers : List ℕ) where
   pub new-leaf : (i : K.Row) → n ≡ Leaf i → leaf (i .0) ≡ renumbered first l numbers (nodeRow n)
   new-leaf i e = rw e refl
 
-  pub new-not : (a x : K.Row) → n ≡ Not a → x .0 ≡ newNumber first l numbers (a .0) → inv (x .0) ≡ renumbered first l numbers (nodeRow n)
+  pub new-not : (a x : K.Row) → n ≡ Not a → x .0 ≡ newNumber first l numbers (a .0)
+      → inv (x .0) ≡ renumbered first l numbers (nodeRow n)
   new-not a x e q = rw e (ap inv q)
 
   pub new-two : (o : Bool) (a b x y : K.Row) → n ≡ Two o a b → x .0 ≡ newNumber first l numbers (a .0)
@@ -163,7 +165,8 @@ module _ (first second : List ℕ) (shape : Shape) (p : Pair first second shape)
   -- R34: the number that the code finds for a reached row is the one that it was carried to.
   module _ (numbers : List ℕ) (j : ℕ)
       (noted : (i : ℕ) → i < j → getD numbers i 0 ≡ getD (M (L + j) .new) (L + i) 0) where
-    pub number-carried : (i : ℕ) → i < L + j → reaches (Y .tab) (Y .heads) i ≡ true → newNumber first L numbers i ≡ getD (M (L + j) .new) i 0
+    pub number-carried : (i : ℕ) → i < L + j → reaches (Y .tab) (Y .heads) i ≡ true
+        → newNumber first L numbers i ≡ getD (M (L + j) .new) i 0
     number-carried i h q = elim (decLt i 2) [
       | yes a ↦ sym (number-constant first L numbers i a) ∙ constant-at i a ∙ sym (leaf-kept j i (omega arith) q)
       | no a ↦ elim (decLt i L) [
@@ -200,7 +203,9 @@ module _ (first second : List ℕ) (shape : Shape) (p : Pair first second shape)
   ready-ren news k n (bin o a b) h l = (l a, l b)
 
   new-ready : (j : ℕ) → j < rowsIn second → Ready (length (M (L + j) .tab)) (new j)
-  new-ready j h = ready-ren (M (L + j) .new) (L + j) (length (M (L + j) .tab)) (row j) (row-ready j h) (carried-low (L + j) (omega (arith, sizeY)))
+  new-ready j h =
+      ready-ren (M (L + j) .new) (L + j) (length (M (L + j) .tab)) (row j) (row-ready j h)
+      (carried-low (L + j) (omega (arith, sizeY)))
 
   -- R34: it is added, and its number is the next of the new numbers.
   record Step (j : ℕ) : Type 0 where
@@ -218,13 +223,16 @@ module _ (first second : List ℕ) (shape : Shape) (p : Pair first second shape)
   -- Where the code reads it; c is the number of cells.
   module _ (j : ℕ) (h : j < rowsIn second) (c : ℕ) (e : c ≡ C) where
     pub row-inside : Inside second (shapeOf shape) (2 + c + j)
-    row-inside = rw (← second-shape) (sized-inside second (shapeAt old second) (rowsIn second) (2 + c + j) (taken-sized second (p .two))
+    row-inside =
+        rw (← second-shape)
+        (sized-inside second (shapeAt old second) (rowsIn second) (2 + c + j) (taken-sized second (p .two))
         (omega (arith, ap cells second-shape)))
 
     pub row-few : 2 + c + j < 65536
     row-few = omega (arith, p .two .room, ap cells second-shape)
 
-    pub row-place : (n : Node) → nodeRow n ≡ speltRow second (shapeOf shape) (2 + c + j) → nodeRow n ≡ speltRow second (shapeOf shape) (L + j)
+    pub row-place : (n : Node) → nodeRow n ≡ speltRow second (shapeOf shape) (2 + c + j)
+        → nodeRow n ≡ speltRow second (shapeOf shape) (L + j)
     row-place n q = q ∙ ap (λ k. speltRow second (shapeOf shape) (2 + k + j)) e
 
   -- The row as the code reads it and renumbers it.
@@ -294,7 +302,12 @@ module _ (first second : List ℕ) (shape : Shape) (p : Pair first second shape)
                     (getD-set-other numbers j i (x .row .0) 0 (omega arith) ∙ g .noted (open-before f) i k)
                 | no k ↦
                     let u : i ≡ j = omega arith in
-                    rw (u, st .news, snoc-last (M (L + j) .new) _ (L + j) (carry-size add (X .tab) (X .heads) (Y .tab) (Y .heads) (L + j)))
+                    rw (
+                      u,
+                      st .news,
+                      snoc-last (M (L + j) .new) _ (L + j)
+                          (carry-size add (X .tab) (X .heads) (Y .tab) (Y .heads) (L + j)),
+                    )
                     (getD-set-same numbers j (x .row .0) 0 (omega (arith, g .long)) ∙ gives .row f)
               ];
             })
@@ -352,7 +365,8 @@ module _ (first second : List ℕ) (shape : Shape) (p : Pair first second shape)
     head-there c h = omega (arith, w .count, p .two .size, ap cells second-shape)
 
     head-is : (c h : ℕ) → c < n → h ≡ numberAt 2 second (headAt old c) → h ≡ getD (Y .heads) c 0
-    head-is c h l q = q ∙ sym (spelt-head second (shapeAt old second) (rowsIn second) c (omega (arith, w .count, ap cells second-shape)))
+    head-is c h l q =
+        q ∙ sym (spelt-head second (shapeAt old second) (rowsIn second) c (omega (arith, w .count, ap cells second-shape)))
 
     pub head-known : (c h : ℕ) → c < n → h ≡ numberAt 2 second (headAt old c) → Known first L (length numbers) h
     head-known c h l q = record {
@@ -368,7 +382,8 @@ module _ (first second : List ℕ) (shape : Shape) (p : Pair first second shape)
     heads-more d u c h v size f l q e =
         let z : c - 0 ≡ c = omega arith in
         let at = getD-map (newNumber first L numbers) (Y .heads) c 0 0 (omega (arith, headsY, w .count)) in
-        replacing-more f (omega arith) (omega (arith, given-length)) (e ∙ ap (newNumber first L numbers) (head-is c h l q) ∙ rw z (sym at))
+        replacing-more f (omega arith) (omega (arith, given-length))
+        (e ∙ ap (newNumber first L numbers) (head-is c h l q) ∙ rw z (sym at))
 
     pub heads-all : (d u : List ℕ) (c : ℕ) → length d ≡ n → Replacing d 0 given u c → n ≤ c → u ≡ given
     heads-all d u c size f h = replacing-whole f (omega arith) (omega (arith, given-length))

@@ -32,16 +32,20 @@ module _ (file : List ℕ) (shape : Shape) (total : ℕ) (rows : List ℕ) (w : 
 
   module _ (i : ℕ) (h : i < total) where
     pub copying-inside : Inside file (shapeOf shape) i
-    copying-inside = rw (w .shaped) (sized-inside file (shapeAt old file) (rowsIn file) i (taken-sized file (w .taken)) (omega (arith, size, w .whole)))
+    copying-inside =
+        rw (w .shaped)
+        (sized-inside file (shapeAt old file) (rowsIn file) i (taken-sized file (w .taken)) (omega (arith, size, w .whole)))
 
     pub copying-few : i < 65536
     copying-few = omega (arith, w .taken .room, size, w .whole)
 
-    pub copying-more : (u : List ℕ) → length u ≡ length rows → Copying file u i → (n : Node) → nodeRow n ≡ speltRow file (shapeOf shape) i → (e : ℕ)
+    pub copying-more : (u : List ℕ) → length u ≡ length rows → Copying file u i → (n : Node)
+        → nodeRow n ≡ speltRow file (shapeOf shape) i → (e : ℕ)
         → (e ≡ entry (nodeRow n)) × Narrow (nodeRow n) → Copying file (set u i e) (i + 1)
     copying-more u kept g n q e z =
         let row : nodeRow n ≡ rowAt (setIn file .tab) i
-        = q ∙ ap (λ sh. speltRow file sh i) (w .shaped) ∙ sym (spelt-row file (shapeAt old file) (rowsIn file) i (omega (arith, size, w .whole))) in
+        = q ∙ ap (λ sh. speltRow file sh i) (w .shaped) ∙ sym
+        (spelt-row file (shapeAt old file) (rowsIn file) i (omega (arith, size, w .whole))) in
         record {
           low = omega (arith, w .whole);
           holds = λ k l. elim (decLt k i) [
@@ -52,6 +56,8 @@ module _ (file : List ℕ) (shape : Shape) (total : ℕ) (rows : List ℕ) (w : 
           ];
         }
 
-  pub copying-all : (u : List ℕ) → length u ≡ length rows → (i : ℕ) → Copying file u i → total ≤ i → Stored u total (setIn file .tab)
+  pub copying-all : (u : List ℕ) → length u ≡ length rows → (i : ℕ) → Copying file u i → total ≤ i
+      → Stored u total (setIn file .tab)
   copying-all u kept i g h =
-      stored-rows u total (setIn file .tab) (sym (w .whole)) (omega (arith, w .room, w .taken .room, size, w .whole)) (λ k l. g .holds k (omega arith))
+      stored-rows u total (setIn file .tab) (sym (w .whole)) (omega (arith, w .room, w .taken .room, size, w .whole))
+      (λ k l. g .holds k (omega arith))

@@ -75,7 +75,8 @@ fn carry_row(
     numbers: &mut [u16],
 ) -> Table
     requires { ⌜ Carrying (now first) (now second) shape (now rows) table (now numbers) j × (j < rowsIn (now second)) ⌝ }
-    ensures { λ r. ⌜ Carrying (now (first .entry)) (now (second .entry)) shape (now (rows .exit)) r (now (numbers .exit)) (j + 1) ⌝ }
+    ensures { λ r.
+        ⌜ Carrying (now (first .entry)) (now (second .entry)) shape (now (rows .exit)) r (now (numbers .exit)) (j + 1) ⌝ }
 {
     let at = 2 + shape.cells() + j;
     let node = row_in(second, shape, Row(at as u16));
@@ -94,7 +95,9 @@ pub fn carry_rows(
     numbers: &mut [u16],
 ) -> Table
     requires { ⌜ Carrying (now first) (now second) shape (now rows) start (now numbers) 0 ⌝ }
-    ensures { λ r. ⌜ Carrying (now (first .entry)) (now (second .entry)) shape (now (rows .exit)) r (now (numbers .exit)) (rowsIn (now (second .entry))) ⌝ }
+    ensures { λ r.
+        ⌜ Carrying (now (first .entry)) (now (second .entry)) shape (now (rows .exit)) r (now (numbers .exit))
+        (rowsIn (now (second .entry))) ⌝ }
 {
     let count = word(second, 5);
     let mut table = start;

@@ -119,7 +119,8 @@ module _ (first second : List ℕ) (rows numbers : ℕ) (out : List ℕ) where
         rows-short h =
             refused-writes (NoRoom 0) (rw (taken-read first a, taken-read second b, agree, lt-ltb rows (length (X .tab)) h))
 
-        pub numbers-short : length (X .tab) ≤ rows → numbers < length (X .tab) + rowsIn second → Writes v (W.Refused (NoRoom 0)) out out
+        pub numbers-short : length (X .tab) ≤ rows → numbers < length (X .tab) + rowsIn second
+            → Writes v (W.Refused (NoRoom 0)) out out
         unfolding compose
         numbers-short h l =
             refused-writes (NoRoom 0) (rw (
@@ -144,7 +145,8 @@ module _ (first second : List ℕ) (rows numbers : ℕ) (out : List ℕ) where
             le-ltb numbers (length (X .tab) + rowsIn second) (r .numbers-lent),
           )
 
-          pub table-full : room rows < length (composed X Y .tab) → (n : ℕ) → n ≡ room rows → Writes v (W.Refused (NoRoom n)) out out
+          pub table-full : room rows < length (composed X Y .tab) → (n : ℕ) → n ≡ room rows
+              → Writes v (W.Refused (NoRoom n)) out out
           unfolding finish
           table-full h n e = refused-writes (NoRoom n) (answer-is ∙ rw (lt-ltb (room rows) (length (composed X Y .tab)) h, e))
 

@@ -25,13 +25,15 @@ composed-front first second rows numbers n before after c =
     writes-front (answer first second rows numbers before) n before after (record { answer = c .answers; output = c .output })
 
 -- R58: what writing the unchanging set leaves there is its file.
-still-front : (sh : Shape) (n : ℕ) (before after : List ℕ) → Writes (writeUnchanging old sh (length before)) (W.Length n) before after
+still-front : (sh : Shape) (n : ℕ) (before after : List ℕ)
+    → Writes (writeUnchanging old sh (length before)) (W.Length n) before after
     → take n after ≡ writeSet old (unchangingSet sh)
 unfolding writeUnchanging writeInto
 still-front sh n before after w =
     let v = writes-front (writeUnchanging old sh (length before)) n before after w in
     let (_, _, rest) = bind-granted (checkShape old sh) _ v in
-    let (_, is) = check-granted (ltb (length before) (length (writeSet old (unchangingSet sh)))) 10 _ (λ _. granted (writeSet old (unchangingSet sh))) rest in
+    let (_, is) = check-granted (ltb (length before) (length (writeSet old (unchangingSet sh)))) 10 _
+    (λ _. granted (writeSet old (unchangingSet sh))) rest in
     cc
 
 -- R32, R40: a file that is accepted as a set of the shape sh, and the unchanging set of sh as it was written.
@@ -41,12 +43,15 @@ module _ (file : List ℕ) (b : Bytes file) (z : TransferSet) (r : readSet old f
   pub still-first : (rows numbers k : ℕ) (before after : List ℕ) → Composes (take n still) file rows numbers (Length k) before after
       → take k after ≡ file
   still-first rows numbers k before after c =
-      let front = rw (still-front (z .shape) n blank still w) at (composed-front (take n still) file rows numbers k before after c) in
+      let front = rw (still-front (z .shape) n blank still w) at
+      (composed-front (take n still) file rows numbers k before after c) in
       unchanging-first old old-sensible file b z r rows numbers (length before) (take k after) front
 
   -- Composed before it, too.
-  pub still-second : (rows numbers k : ℕ) (before after : List ℕ) → Composes file (take n still) rows numbers (Length k) before after
+  pub still-second : (rows numbers k : ℕ) (before after : List ℕ)
+      → Composes file (take n still) rows numbers (Length k) before after
       → take k after ≡ file
   still-second rows numbers k before after c =
-      let front = rw (still-front (z .shape) n blank still w) at (composed-front file (take n still) rows numbers k before after c) in
+      let front = rw (still-front (z .shape) n blank still w) at
+      (composed-front file (take n still) rows numbers k before after c) in
       unchanging-second old old-sensible file b z r rows numbers (length before) (take k after) front

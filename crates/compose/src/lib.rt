@@ -34,7 +34,9 @@ fn compose_both(
     out: &mut [u8],
 ) -> Composed
     requires { ⌜ Taken (now first) × Taken (now second) ⌝ }
-    ensures { λ r. ⌜ Composes (now (first .entry)) (now (second .entry)) (length (now (rows .entry))) (length (now (numbers .entry))) r (now (out .entry)) (now (out .exit)) ⌝ }
+    ensures { λ r.
+        ⌜ Composes (now (first .entry)) (now (second .entry)) (length (now (rows .entry)))
+        (length (now (numbers .entry))) r (now (out .entry)) (now (out .exit)) ⌝ }
 {
     match compose_accepted(first, second, rows, numbers, out) {
         Written::Length(n) => Composed::Length(n),
@@ -50,7 +52,9 @@ fn compose_checked(
     numbers: &mut [u16],
     out: &mut [u8],
 ) -> Composed
-    ensures { λ r. ⌜ Composes (now (first .entry)) (now (second .entry)) (length (now (rows .entry))) (length (now (numbers .entry))) r (now (out .entry)) (now (out .exit)) ⌝ }
+    ensures { λ r.
+        ⌜ Composes (now (first .entry)) (now (second .entry)) (length (now (rows .entry)))
+        (length (now (numbers .entry))) r (now (out .entry)) (now (out .exit)) ⌝ }
 {
     match check_set(first) {
         Checked::Granted => match check_set(second) {
@@ -71,7 +75,9 @@ pub fn compose(
     numbers: &mut [u16],
     out: &mut [u8],
 ) -> Composed
-    ensures { λ r. ⌜ Composes (now (first .entry)) (now (second .entry)) (length (now (rows .entry))) (length (now (numbers .entry))) r (now (out .entry)) (now (out .exit)) ⌝ }
+    ensures { λ r.
+        ⌜ Composes (now (first .entry)) (now (second .entry)) (length (now (rows .entry)))
+        (length (now (numbers .entry))) r (now (out .entry)) (now (out .exit)) ⌝ }
     ensures { λ _. ⌜ now (rows .exit) ≡ workAfter (now (rows .entry)) ⌝ }
     ensures { λ _. ⌜ now (numbers .exit) ≡ workAfter (now (numbers .entry)) ⌝ }
 {

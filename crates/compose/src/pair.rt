@@ -44,8 +44,11 @@ fn write_moved(
     heads: &mut [u16],
     out: &mut [u8],
 ) -> Written
-    requires { ⌜ Finished (now first) (now second) shape (now rows) table (now numbers) × (length (now heads) ≡ cells (shapeOf shape)) ⌝ }
-    ensures { λ r. ⌜ Writes (answer (now (first .entry)) (now (second .entry)) (length (now (rows .entry))) (length (now (numbers .entry))) (now (out .entry))) r (now (out .entry)) (now (out .exit)) ⌝ }
+    requires { ⌜ Finished (now first) (now second) shape (now rows) table (now numbers) ×
+        (length (now heads) ≡ cells (shapeOf shape)) ⌝ }
+    ensures { λ r.
+        ⌜ Writes (answer (now (first .entry)) (now (second .entry)) (length (now (rows .entry)))
+        (length (now (numbers .entry))) (now (out .entry))) r (now (out .entry)) (now (out .exit)) ⌝ }
 {
     move_heads(first, second, shape, numbers, heads);
     write_table(shape, heads, rows, table.used, numbers, out)
@@ -62,7 +65,9 @@ fn write_composed(
     out: &mut [u8],
 ) -> Written
     requires { ⌜ Finished (now first) (now second) shape (now rows) table (now numbers) ⌝ }
-    ensures { λ r. ⌜ Writes (answer (now (first .entry)) (now (second .entry)) (length (now (rows .entry))) (length (now (numbers .entry))) (now (out .entry))) r (now (out .entry)) (now (out .exit)) ⌝ }
+    ensures { λ r.
+        ⌜ Writes (answer (now (first .entry)) (now (second .entry)) (length (now (rows .entry)))
+        (length (now (numbers .entry))) (now (out .entry))) r (now (out .entry)) (now (out .exit)) ⌝ }
 {
     let mut heads = [0u16; 217];
     let cells = shape.cells();
@@ -89,7 +94,9 @@ fn compose_pair(
     out: &mut [u8],
 ) -> Written
     requires { ⌜ Pairs (now first) (now second) shape total (length (now rows)) (length (now numbers)) ⌝ }
-    ensures { λ r. ⌜ Writes (answer (now (first .entry)) (now (second .entry)) (length (now (rows .entry))) (length (now (numbers .entry))) (now (out .entry))) r (now (out .entry)) (now (out .exit)) ⌝ }
+    ensures { λ r.
+        ⌜ Writes (answer (now (first .entry)) (now (second .entry)) (length (now (rows .entry)))
+        (length (now (numbers .entry))) (now (out .entry))) r (now (out .entry)) (now (out .exit)) ⌝ }
 {
     copy_rows(first, shape, total, rows);
     let start = Table {
@@ -113,7 +120,9 @@ pub fn compose_accepted(
     out: &mut [u8],
 ) -> Written
     requires { ⌜ Taken (now first) × Taken (now second) ⌝ }
-    ensures { λ r. ⌜ Writes (answer (now (first .entry)) (now (second .entry)) (length (now (rows .entry))) (length (now (numbers .entry))) (now (out .entry))) r (now (out .entry)) (now (out .exit)) ⌝ }
+    ensures { λ r.
+        ⌜ Writes (answer (now (first .entry)) (now (second .entry)) (length (now (rows .entry)))
+        (length (now (numbers .entry))) (now (out .entry))) r (now (out .entry)) (now (out .exit)) ⌝ }
 {
     let shape = shape_at(first);
     if !same_shape(shape, shape_at(second)) {

@@ -70,9 +70,11 @@ module _ (file s : List ℕ) (lent : ℕ) where
     -- R57: fewer values than rows.
     pub evaluate-short : lent < length (setIn file .tab) → Evaluates file s lent (Refused (NoRoom 0)) s
     unfolding evaluate
-    evaluate-short h = refused-evaluate (NoRoom 0) (rw (taken-read file (e .accepted), storage-is, lt-ltb lent (length (setIn file .tab)) h))
+    evaluate-short h =
+        refused-evaluate (NoRoom 0) (rw (taken-read file (e .accepted), storage-is, lt-ltb lent (length (setIn file .tab)) h))
 
-    pub evaluate-done : length (setIn file .tab) ≤ lent → (after : List ℕ) → after ≡ evaluatedBytes file s → Evaluates file s lent Done after
+    pub evaluate-done : length (setIn file .tab) ≤ lent → (after : List ℕ) → after ≡ evaluatedBytes file s
+        → Evaluates file s lent Done after
     unfolding evaluate
     evaluate-done h after z =
         let read = taken-read file (e .accepted) in

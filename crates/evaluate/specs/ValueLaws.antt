@@ -176,7 +176,8 @@ module _ (file : List ℕ) (s : List ℕ) (e : Evaluable file s) where
 
   -- The head of a cell is one of the rows.
   pub head-low : (c h : ℕ) → c < length s → h ≡ numberAt 2 file (headAt old c) → h < length t
-  head-low c h l q = omega (arith, taken-proper file (e .accepted) .rows c, size, spelt-head file sh r c (omega (arith, e .stored .size)))
+  head-low c h l q =
+      omega (arith, taken-proper file (e .accepted) .rows c, size, spelt-head file sh r c (omega (arith, e .stored .size)))
 
   pub head-there : (c : ℕ) → c < length s → headAt old c + 2 ≤ length file
   head-there c l = omega (arith, e .stored .size, e .accepted .size)

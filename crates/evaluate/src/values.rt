@@ -65,7 +65,9 @@ fn row_value(storage: &[u8], values: &[u8], node: Node) -> u8
 // R27: works out the value of each row in order.
 fn work_out(file: &[u8], storage: &[u8], values: &mut [u8])
     requires { ⌜ Evaluable (now file) (now storage) × (length (setIn (now file) .tab) ≤ length (now values)) ⌝ }
-    ensures { λ _. ⌜ Valued (now (file .entry)) (now (storage .entry)) (now (values .exit)) (length (setIn (now (file .entry)) .tab)) ⌝ }
+    ensures { λ _.
+        ⌜ Valued (now (file .entry)) (now (storage .entry)) (now (values .exit))
+        (length (setIn (now (file .entry)) .tab)) ⌝ }
 {
     let shape = shape_at(file);
     let total = 2 + shape.cells() + word(file, 5);

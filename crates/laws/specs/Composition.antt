@@ -61,10 +61,12 @@ module _ (e : Edition) (s : Sensible e) where
       let same-y = one-set e second (y .set) (c .two) (y .read) (c .read-two) in
       let same-z = one-set e bytes (z .set) (composeSets (c .one) (c .two)) (z .read) (c .made .accepted) in
       let b = map (eqb 1) storage in
-      let long : length b ≡ cells (c .one .shape) = length-map storage (eqb 1) ∙ x .long ∙ ap (λ (a : TransferSet). cells (a .shape)) same-x in
+      let long : length b ≡ cells (c .one .shape) = length-map storage (eqb 1) ∙ x .long ∙ ap
+      (λ (a : TransferSet). cells (a .shape)) same-x in
       let first-is : u ≡ evaluateSet (c .one) b = x .is ∙ ap (λ a. evaluateSet a b) same-x in
       z .is ∙ ap (λ a. evaluateSet a b) same-z
-      ∙ compose-value (c .one) (c .two) (c .made .shape) (whole first (c .one) (c .read-one)) (whole second (c .two) (c .read-two)) b long
+      ∙ compose-value (c .one) (c .two) (c .made .shape) (whole first (c .one) (c .read-one))
+      (whole second (c .two) (c .read-two)) b long
       ∙ sym (y .is ∙ ap (λ a. evaluateSet a (map (eqb 1) (storageBytes u))) same-y
       ∙ ap (evaluateSet (c .two)) (bits-read u ∙ first-is))
 
@@ -72,7 +74,8 @@ module _ (e : Edition) (s : Sensible e) where
   pub compose-groupings : (x y z xy yz left right : List ℕ) (a b c d f g h i j k l m : ℕ)
       → compose e x y a b c ≡ granted xy → compose e xy z d f g ≡ granted left
       → compose e y z h i j ≡ granted yz → compose e x yz k l m ≡ granted right
-      → (storage : List ℕ) (n o : ℕ) (v w : List Bool) → evaluate e left storage n ≡ granted v → evaluate e right storage o ≡ granted w
+      → (storage : List ℕ) (n o : ℕ) (v w : List Bool) → evaluate e left storage n ≡ granted v
+      → evaluate e right storage o ≡ granted w
       → v ≡ w
   unfolding setOf
   compose-groupings x y z xy yz left right a b c d f g h i j k l m p q r t storage n o v w ev ew =
@@ -90,11 +93,15 @@ module _ (e : Edition) (s : Sensible e) where
       let d-two : D .two ≡ composeSets (C .one) (C .two) = one-set e yz (D .two) _ (D .read-two) (C .made .accepted) in
       let E = evaluate-granted e left storage n v ev in
       let F = evaluate-granted e right storage o w ew in
-      let v-is : E .set ≡ composeSets (composeSets X Y) Z = one-set e left (E .set) _ (E .read) (B .made .accepted) ∙ ap (λ u. composeSets u Z) b-one in
-      let w-is : F .set ≡ composeSets X (composeSets Y Z) = cc (one-set e right (F .set) _ (F .read) (D .made .accepted), d-one, d-two, c-one, c-two) in
+      let v-is : E .set ≡ composeSets (composeSets X Y) Z = one-set e left (E .set) _ (E .read) (B .made .accepted) ∙ ap
+      (λ u. composeSets u Z) b-one in
+      let w-is : F .set ≡ composeSets X (composeSets Y Z) = cc
+      (one-set e right (F .set) _ (F .read) (D .made .accepted), d-one, d-two, c-one, c-two) in
       let bits = map (eqb 1) storage in
       let yz-shape : Y .shape ≡ Z .shape = cc (c-one, c-two, C .made .shape) in
-      let long : length bits ≡ cells (X .shape) = length-map storage (eqb 1) ∙ E .long ∙ ap (λ (u : TransferSet). cells (u .shape)) v-is in
+      let long : length bits ≡ cells (X .shape) = length-map storage (eqb 1) ∙ E .long ∙ ap
+      (λ (u : TransferSet). cells (u .shape)) v-is in
       E .is ∙ ap (λ u. evaluateSet u bits) v-is
-      ∙ compose-grouping X Y Z (A .made .shape) yz-shape (whole x X (A .read-one)) (whole y Y (A .read-two)) (whole z Z (B .read-two)) bits long
+      ∙ compose-grouping X Y Z (A .made .shape) yz-shape (whole x X (A .read-one)) (whole y Y (A .read-two))
+      (whole z Z (B .read-two)) bits long
       ∙ sym (F .is ∙ ap (λ u. evaluateSet u bits) w-is)

@@ -106,7 +106,8 @@ pub entry-narrow : (n : ℕ) → Narrow (rowOfEntry n)
 unfolding rowOfEntry
 entry-narrow n = go (eqb (n / 4294967296) 0) (eqb (n / 4294967296) 1) (eqb (n / 4294967296) 2)
   where
-    go : (x y z : Bool) → Narrow (cond x (leaf (n / 65536 % 65536)) (cond y (inv (n / 65536 % 65536)) (bin z (n / 65536 % 65536) (n % 65536))))
+    go : (x y z : Bool)
+        → Narrow (cond x (leaf (n / 65536 % 65536)) (cond y (inv (n / 65536 % 65536)) (bin z (n / 65536 % 65536) (n % 65536))))
     go true y z = record { one = omega arith; two = omega arith }
     go false true z = record { one = omega arith; two = omega arith }
     go false false z = record { one = omega arith; two = omega arith }
@@ -143,7 +144,8 @@ module _ (rows : List ℕ) (used : ℕ) (n : Node) (e last at : ℕ) (made : (e 
       let size = stored-length s in
       let low = last-low (length t) q h in
       let next : last + 1 ≡ suc (lastOf q) = omega arith in
-      let same-test : (k : ℕ) → last + 1 ≤ k → k < last + 1 + (used - (last + 1)) → eqb (getD rows k 0) e ≡ same (rowAt t k) q = λ k a b.
+      let same-test : (k : ℕ) → last + 1 ≤ k → k < last + 1 + (used - (last + 1)) → eqb (getD rows k 0) e ≡ same (rowAt t k) q
+      = λ k a b.
       (let l : k < used = omega (arith, low) in
       let row = stored-row s k l in
       let own : getD rows k 0 ≡ entry (rowAt t k) = sym (s .entries k l) ∙ ap entry (sym row) in

@@ -54,7 +54,8 @@ writes-only v a b before t u p q =
     (sym (answer-back a) ∙ ap answerOf (p .answer ∙ sym (q .answer)) ∙ answer-back b, p .output ∙ sym (q .output))
 
 -- R59: what a granted call leaves at the front of the output is what the rules hand back.
-pub writes-front : (v : Verdict (List ℕ)) (n : ℕ) (before after : List ℕ) → Writes v (Length n) before after → v ≡ granted (take n after)
+pub writes-front : (v : Verdict (List ℕ)) (n : ℕ) (before after : List ℕ) → Writes v (Length n) before after
+    → v ≡ granted (take n after)
 writes-front (granted bytes) n before after w =
     let size : n ≡ length bytes = cc (w .answer) in
     ap granted (sym (rw (w .output, size) (take-append-seam bytes (drop (length bytes) before))))

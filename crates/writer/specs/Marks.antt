@@ -131,7 +131,8 @@ pub from-none : (rows : List ℕ) (k : ℕ) (s : List ℕ) → getD s k 0 ≡ 0 
 unfolding markFrom
 from-none rows k s e = rw (eq-eqb (getD s k 0) 0 e)
 
-pub from-marked : (rows : List ℕ) (k : ℕ) (s : List ℕ) (r : Row) (u : List ℕ) → (getD s k 0 ≡ 0 → ⊥) → r ≡ rowOfEntry (getD rows k 0)
+pub from-marked : (rows : List ℕ) (k : ℕ) (s : List ℕ) (r : Row) (u : List ℕ) → (getD s k 0 ≡ 0 → ⊥)
+    → r ≡ rowOfEntry (getD rows k 0)
     → u ≡ markAll (operands r) s
     → u ≡ markFrom rows k s
 unfolding markFrom
@@ -143,7 +144,8 @@ pub record Marking (t : List Row) (x : List ℕ) (k : ℕ) (s : List ℕ) : Type
   pub same : needs t k found ≡ needs t (length t) x
   pub marked : Marked (length t) found s
 
-marking-more : (t : List Row) (x : List ℕ) (k : ℕ) (s : List ℕ) → Below (length s) (rowAt t k) → k < length t → Marking t x (suc k) s
+marking-more : (t : List Row) (x : List ℕ) (k : ℕ) (s : List ℕ) → Below (length s) (rowAt t k) → k < length t
+    → Marking t x (suc k) s
     → Marking t x k (cond (eqb (getD s k 0) 0) s (markAll (operands (rowAt t k)) s))
 unfolding needs
 marking-more t x k s b h m = record {

@@ -66,7 +66,8 @@ module _ (rows : List ℕ) (used : ℕ) (held : used ≤ length rows) {C : ℕ} 
       let row = table-row rows used k l in
       let below = canonical-below w k (omega (arith, size)) in
       let closed = reaches-operands t w x k (rowAt t k) (omega (arith, size)) refl q in
-      let stays : (a : ℕ) → a < k → reaches t x a ≡ true → getD (m .new) a 0 ≡ getD (s .new) a 0 = λ a p r. sym (N .reached a (omega arith) r ∙ carry-stays append (base C) (unchanging C) t x k used a p (omega arith)) in
+      let stays : (a : ℕ) → a < k → reaches t x a ≡ true → getD (m .new) a 0 ≡ getD (s .new) a 0 = λ a p r. sym
+      (N .reached a (omega arith) r ∙ carry-stays append (base C) (unchanging C) t x k used a p (omega arith)) in
       let same = ren-same (λ a. reaches t x a ≡ true) (m .new) (s .new) k stays (rowAt t k) below closed in
       ap (λ m. drop (2 + C) (m .tab)) e ∙ drop-append-le (2 + C) (m .tab) _ (tall k (omega arith))
       ∙ rw (kept-one rows (s .new) k some, ← row, same)
@@ -96,7 +97,8 @@ module _ (rows : List ℕ) (used : ℕ) (held : used ≤ length rows) {C : ℕ} 
   pub kept-heads : ((c : ℕ) → getD x c 0 < used) → newHeads (s .new) x ≡ newHeads (carried C (tableIn rows used) x used .new) x
   kept-heads low =
       map-ext (λ h. getD (s .new) h 0) (λ h. getD (carried C (tableIn rows used) x used .new) h 0) 0 x (λ c h.
-      N .reached (getD x c 0) (low c) (needs-keeps (tableIn rows used) (length (tableIn rows used)) (getD x c 0) x (elem-at x c 0 h)))
+      N .reached (getD x c 0) (low c)
+      (needs-keeps (tableIn rows used) (length (tableIn rows used)) (getD x c 0) x (elem-at x c 0 h)))
 
   pub next-is : s .next ≡ 2 + C + length (drop (2 + C) (carried C (tableIn rows used) x used .tab))
   next-is = omega (arith, N .next, tall used (omega arith), length-drop (2 + C) (carried C (tableIn rows used) x used .tab))
@@ -115,14 +117,18 @@ module _ {sh : Shape} {x rows : List ℕ} {used room : ℕ} (T : Tabled sh x row
   table-numbered r q = rw (q, c) (numbered (T .stands .canonical) r used (omega (arith, table-length rows used (T .held))))
 
 -- R36, R59: writing the set, once its rows have been numbered.
-module _ {sh : Shape} {x rows : List ℕ} {used room : ℕ} (T : Tabled sh x rows used room) {C : ℕ} (c : C ≡ cells sh) {n : ℕ} {new : List ℕ}
+module _ {sh : Shape} {x rows : List ℕ} {used room : ℕ} (T : Tabled sh x rows used room) {C : ℕ} (c : C ≡ cells sh) {n : ℕ}
+    {new : List ℕ}
     (numbers : Numbered (cells sh) (tableIn rows used) x used (numbering n new)) where
   long : 2 + cells sh ≤ used
   long = omega (arith, T .stands .canonical .long, table-length rows used (T .held))
 
   pub table-next : (2 + C ≤ n) × (n ≤ used)
-  table-next =
-      (omega (arith, next-is rows used (T .held) (T .stands .canonical) numbers), next-small rows used (T .held) (T .stands .canonical) numbers long)
+  table-next = (
+    omega (arith, next-is rows used (T .held) (T .stands .canonical) numbers),
+    next-small rows used (T .held)
+        (T .stands .canonical) numbers long,
+  )
 
   fits : used ≤ length new
   fits = omega (arith, numbers .size, table-length rows used (T .held))
@@ -147,7 +153,8 @@ module _ {sh : Shape} {x rows : List ℕ} {used room : ℕ} (T : Tabled sh x row
   count = length-map x (λ h. getD new h 0) ∙ T .stands .count
 
   file-length : length (writeSet old (Z (newHeads new x) used)) ≡ 7 + 2 * C + 5 * (n - (2 + C))
-  file-length = omega (arith, set-length (Z (newHeads new x) used) count, next-is rows used (T .held) (T .stands .canonical) numbers)
+  file-length =
+      omega (arith, set-length (Z (newHeads new x) used) count, next-is rows used (T .held) (T .stands .canonical) numbers)
 
   kept-is : drop (2 + cells sh) (carried (cells sh) (tableIn rows used) x used .tab) ≡ kept rows new (2 + C) (used - (2 + C))
   kept-is = rw c (kept-all rows used (T .held) (T .stands .canonical) numbers long)

@@ -59,7 +59,8 @@ module _ (z : TransferSet) (h : length (z .heads) ≡ cells (z .shape)) where
       let head = writeHeader old 2 (z .shape) (length (rowsOf z)) in
       let heads = flatMap (bytesOf 2) (z .heads) in
       let rows = flatMap rowBytes (rowsOf z) in
-      let p : 7 + 2 * cells (z .shape) ≡ 7 + length heads = omega (arith, length-table (bytesOf 2) 2 (length-bytes 2) (z .heads), h) in
+      let p : 7 + 2 * cells (z .shape) ≡ 7 + length heads = omega
+      (arith, length-table (bytesOf 2) 2 (length-bytes 2) (z .heads), h) in
       let q : 0 + length head ≡ 7 = omega (arith, length-header old 2 (z .shape) (length (rowsOf z))) in
       let two : d ≡ putAt a 7 (heads ++ rows) = g ∙ rw (f, p) (put-put a 7 heads rows) in
       two ∙ rw (e, ← q) (put-put out 0 head (heads ++ rows))

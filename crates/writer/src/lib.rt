@@ -33,7 +33,9 @@ pub enum Written {
 // R58, R59: writes the unchanging set of an allowed shape.
 fn put_unchanging(shape: Shape, out: &mut [u8]) -> Written
     requires { ⌜ checkShape old (shapeOf shape) ≡ granted tt ⌝ }
-    ensures { λ r. ⌜ Writes (writeInto old (leaves (shapeOf shape)) (length (now (out .entry))) (unchangingSet (shapeOf shape))) r (now (out .entry)) (now (out .exit)) ⌝ }
+    ensures { λ r.
+        ⌜ Writes (writeInto old (leaves (shapeOf shape)) (length (now (out .entry))) (unchangingSet (shapeOf shape))) r
+        (now (out .entry)) (now (out .exit)) ⌝ }
 {
     let cells = shape.cells();
     let length = 7 + 2 * cells;
@@ -47,7 +49,9 @@ fn put_unchanging(shape: Shape, out: &mut [u8]) -> Written
 
 // R58, R59: writes the unchanging set of a shape.
 pub fn write_unchanging(shape: Shape, out: &mut [u8]) -> Written
-    ensures { λ r. ⌜ Writes (writeUnchanging old (shapeOf shape) (length (now (out .entry)))) r (now (out .entry)) (now (out .exit)) ⌝ }
+    ensures { λ r.
+        ⌜ Writes (writeUnchanging old (shapeOf shape) (length (now (out .entry)))) r (now (out .entry))
+        (now (out .exit)) ⌝ }
 {
     match check_shape(shape) {
         Checked::Granted => put_unchanging(shape, out),
@@ -65,7 +69,10 @@ pub fn write_table(
     out: &mut [u8],
 ) -> Written
     requires { ⌜ Tabled (shapeOf shape) (now heads) (now rows) used (length (now numbers)) ⌝ }
-    ensures { λ r. ⌜ Writes (writeInto old used (length (now (out .entry))) (setOf (shapeOf shape) (over (tableIn (now (rows .entry)) used) (now (heads .entry))))) r (now (out .entry)) (now (out .exit)) ⌝ }
+    ensures { λ r.
+        ⌜ Writes (writeInto old used (length (now (out .entry)))
+        (setOf (shapeOf shape) (over (tableIn (now (rows .entry)) used) (now (heads .entry))))) r (now (out .entry))
+        (now (out .exit)) ⌝ }
 {
     let cells = shape.cells();
     let next = number_reached(shape, heads, rows, used, numbers);

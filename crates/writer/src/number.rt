@@ -49,7 +49,9 @@ pub fn number_reached(
     numbers: &mut [u16],
 ) -> usize
     requires { ⌜ Tabled (shapeOf shape) (now heads) (now rows) used (length (now numbers)) ⌝ }
-    ensures { λ n. ⌜ Numbered (cells (shapeOf shape)) (tableIn (now (rows .entry)) used) (now (heads .entry)) used (numbering n (now (numbers .exit))) ⌝ }
+    ensures { λ n.
+        ⌜ Numbered (cells (shapeOf shape)) (tableIn (now (rows .entry)) used) (now (heads .entry)) used
+        (numbering n (now (numbers .exit))) ⌝ }
 {
     mark_reached(shape, heads, rows, used, numbers);
     number_rows(numbers, 2 + shape.cells(), used)

@@ -64,7 +64,9 @@ fn number_of(numbers: &[u16], r: Row) -> u16
 // R36, R41: the heads, renumbered.
 pub fn put_heads(out: &mut [u8], heads: &[u16], numbers: &[u16])
     requires { ⌜ (7 + 2 * length (now heads) ≤ length (now out)) × ((c : ℕ) → getD (now heads) c 0 < length (now numbers)) ⌝ }
-    ensures { λ _. ⌜ now (out .exit) ≡ putAt (now (out .entry)) 7 (flatMap (bytesOf 2) (newHeads (now (numbers .entry)) (now (heads .entry)))) ⌝ }
+    ensures { λ _.
+        ⌜ now (out .exit) ≡ putAt (now (out .entry)) 7
+        (flatMap (bytesOf 2) (newHeads (now (numbers .entry)) (now (heads .entry)))) ⌝ }
 {
     let mut i = 0;
     while i < heads.len() {
@@ -125,7 +127,9 @@ pub fn put_rows(
     numbers: &[u16],
 )
     requires { ⌜ AllFit (now rows) (now numbers) leaves used at (length (now out)) ⌝ }
-    ensures { λ _. ⌜ now (out .exit) ≡ putAt (now (out .entry)) at (flatMap rowBytes (kept (now (rows .entry)) (now (numbers .entry)) leaves (used - leaves))) ⌝ }
+    ensures { λ _.
+        ⌜ now (out .exit) ≡ putAt (now (out .entry)) at
+        (flatMap rowBytes (kept (now (rows .entry)) (now (numbers .entry)) leaves (used - leaves))) ⌝ }
 {
     let mut to = at;
     let mut k = leaves;
