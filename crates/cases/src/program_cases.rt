@@ -4,28 +4,13 @@ use harness::read::Number;
 use harness::read::Text;
 use harness::read::read_number;
 use harness::read::read_string;
+use harness::run::say_checked;
+use harness::run::scan_kept;
 use harness::show::cut;
-use harness::show::refused_on;
-use harness::show::say;
-use harness::show::say_refusal;
-use harness::show::say_stopped;
 use harness::show::too_large;
-use machine::Scanned;
-use machine::scan;
-use program::Checked;
 use program::check_program;
-use storage::copy_cells;
-ghost use mathlib.Core.Path.{_≡_};
 ghost use Prim.Native.Nat.{_≤_};
 ghost use lib.ListN.{length};
-
-// What a check answered.
-pub fn say_checked(r: Checked) -> bool {
-    match r {
-        Checked::Granted => say(b"granted\n"),
-        Checked::Refused(x) => say_refusal(x),
-    }
-}
 
 // 1: checks a program.
 pub fn check_case(file: &mut [u8]) -> bool {
@@ -33,17 +18,6 @@ pub fn check_case(file: &mut [u8]) -> bool {
         Text::Holds(n) => say_checked(check_program(&file[..n])),
         Text::Long => too_large(),
         Text::Cut => cut(),
-    }
-}
-
-// Scans, and shows the storage after. A copy is kept of what it was.
-fn scan_kept(file: &[u8], cells: &mut [u8], before: &mut [u8], budget: u32) -> bool
-    requires { ⌜ length (now cells) ≡ length (now before) ⌝ }
-{
-    copy_cells(cells, before);
-    match scan(file, cells, budget) {
-        Scanned::Stopped(steps) => say_stopped(steps, cells),
-        Scanned::Refused(x) => refused_on(x, cells, before),
     }
 }
 

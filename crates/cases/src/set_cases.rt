@@ -1,34 +1,18 @@
 // The operations on set files. Each function here says whether to go on with the next case.
-use crate::program_cases::say_checked;
 use base::shape::Shape;
-use compose::Composed;
-use compose::compose;
-use evaluate::evaluate;
-use evaluate::values::Evaluated;
-use harness::lent::bytes_are;
-use harness::lent::fill_bytes;
-use harness::lent::fill_numbers;
-use harness::lent::fill_rows;
-use harness::lent::numbers_are;
-use harness::lent::rows_are;
 use harness::pass_over;
 use harness::read::Number;
 use harness::read::Text;
 use harness::read::read_number;
 use harness::read::read_numbers;
 use harness::read::read_string;
-use harness::show::broken;
+use harness::run::compose_shown;
+use harness::run::evaluate_kept;
+use harness::run::say_checked;
+use harness::run::unchanging_shown;
 use harness::show::cut;
-use harness::show::refused_on;
-use harness::show::refused_output;
-use harness::show::say_storage;
-use harness::show::say_wrote;
 use harness::show::too_large;
 use sets::check_set;
-use storage::copy_cells;
-use writer::Written;
-use writer::write_unchanging;
-ghost use mathlib.Core.Path.{_≡_};
 ghost use Prim.Native.Nat.{_≤_};
 ghost use lib.ListN.{length};
 
@@ -38,22 +22,6 @@ pub fn check_set_case(file: &mut [u8]) -> bool {
         Text::Holds(n) => say_checked(check_set(&file[..n])),
         Text::Long => too_large(),
         Text::Cut => cut(),
-    }
-}
-
-// Evaluates, and shows the storage after. A copy is kept of what it was.
-fn evaluate_kept(file: &[u8], cells: &mut [u8], before: &mut [u8], values: &mut [u8]) -> bool
-    requires { ⌜ length (now cells) ≡ length (now before) ⌝ }
-{
-    copy_cells(cells, before);
-    fill_bytes(values, 165);
-    let r = evaluate(file, cells, values);
-    if !bytes_are(values, 0) {
-        return broken();
-    }
-    match r {
-        Evaluated::Done => say_storage(cells),
-        Evaluated::Refused(x) => refused_on(x, cells, before),
     }
 }
 
@@ -93,37 +61,6 @@ pub fn evaluate_case(file: &mut [u8], cells: &mut [u8]) -> bool
         Text::Long => pass_over(1, 1, b"too large\n"),
         Text::Cut => cut(),
     }
-}
-
-// Shows what composing left in the output.
-fn show_composed(r: Composed, out: &[u8]) -> bool {
-    match r {
-        Composed::Length(n) => say_wrote(n, out, 165),
-        Composed::First(x) => refused_output(x, b" in first\n", out, 165),
-        Composed::Second(x) => refused_output(x, b" in second\n", out, 165),
-        Composed::Refused(x) => refused_output(x, b"\n", out, 165),
-    }
-}
-
-// Composes, and tests what is left of the work.
-fn compose_shown(
-    first: &[u8],
-    second: &[u8],
-    rows: &mut [u64],
-    numbers: &mut [u16],
-    out: &mut [u8],
-) -> bool {
-    fill_rows(rows, 0xa5a5a5a5a5a5a5a5);
-    fill_numbers(numbers, 0xa5a5);
-    fill_bytes(out, 165);
-    let r = compose(first, second, rows, numbers, out);
-    if !rows_are(rows, 0) {
-        return broken();
-    }
-    if !numbers_are(numbers, 0) {
-        return broken();
-    }
-    show_composed(r, out)
 }
 
 // Lends so many rows, numbers and bytes of output.
@@ -187,17 +124,17 @@ pub fn compose_case(file: &mut [u8]) -> bool {
     }
 }
 
-// Writes the unchanging set, and shows it.
-fn unchanging_shown(shape: Shape, out: &mut [u8]) -> bool {
-    fill_bytes(out, 165);
-    match write_unchanging(shape, out) {
-        Written::Length(n) => say_wrote(n, out, 165),
-        Written::Refused(x) => refused_output(x, b"\n", out, 165),
+// Lends so many bytes of output.
+fn unchanging_lent(shape: Shape, lent: usize) -> bool {
+    if 400000 < lent {
+        return too_large();
     }
+    let mut out = [0u8; 400000];
+    unchanging_shown(shape, &mut out[..lent])
 }
 
-// Lends so many bytes of output. The numbers of a shape are at most 255.
-fn unchanging_lent(d: usize, i: usize, o: usize, m: usize, lent: usize) -> bool {
+// The numbers of a shape are at most 255.
+fn unchanging_of(d: usize, i: usize, o: usize, m: usize, lent: usize) -> bool {
     if 255 < d {
         return too_large();
     }
@@ -210,17 +147,13 @@ fn unchanging_lent(d: usize, i: usize, o: usize, m: usize, lent: usize) -> bool 
     if 255 < m {
         return too_large();
     }
-    if 400000 < lent {
-        return too_large();
-    }
     let shape = Shape {
         depth: d as u16,
         inputs: i as u16,
         outputs: o as u16,
         memory: m as u16,
     };
-    let mut out = [0u8; 400000];
-    unchanging_shown(shape, &mut out[..lent])
+    unchanging_lent(shape, lent)
 }
 
 // 7: writes the set that changes nothing.
@@ -229,5 +162,5 @@ pub fn unchanging_case() -> bool {
     if !read_numbers(&mut asked) {
         return cut();
     }
-    unchanging_lent(asked[0], asked[1], asked[2], asked[3], asked[4])
+    unchanging_of(asked[0], asked[1], asked[2], asked[3], asked[4])
 }
