@@ -1,67 +1,14 @@
-// The operations on set files. Each function here says whether to go on with the next case.
+// The operations that write a set. Each function here says whether to go on with the next case.
 use base::shape::Shape;
 use harness::pass_over;
-use harness::read::Number;
 use harness::read::Text;
-use harness::read::read_number;
 use harness::read::read_numbers;
 use harness::read::read_string;
 use harness::run::compose_shown;
-use harness::run::evaluate_kept;
-use harness::run::say_checked;
 use harness::run::unchanging_shown;
 use harness::show::cut;
 use harness::show::too_large;
-use sets::check_set;
 ghost use Prim.Native.Nat.{_≤_};
-ghost use lib.ListN.{length};
-
-// 4: checks a set.
-pub fn check_set_case(file: &mut [u8]) -> bool {
-    match read_string(file) {
-        Text::Holds(n) => say_checked(check_set(&file[..n])),
-        Text::Long => too_large(),
-        Text::Cut => cut(),
-    }
-}
-
-// Lends the copy and the values.
-fn evaluate_lent(file: &[u8], cells: &mut [u8], count: usize) -> bool
-    requires { ⌜ length (now cells) ≤ 4096 ⌝ }
-{
-    if 70000 < count {
-        return too_large();
-    }
-    let mut before = io::buffer();
-    let mut values = [0u8; 70000];
-    let n = cells.len();
-    evaluate_kept(file, cells, &mut before[..n], &mut values[..count])
-}
-
-// Reads the storage and how many values are lent, and evaluates.
-fn evaluate_on(file: &[u8], cells: &mut [u8]) -> bool
-    requires { ⌜ length (now cells) ≤ 4096 ⌝ }
-{
-    match read_string(cells) {
-        Text::Holds(n) => match read_number() {
-            Number::Is(count) => evaluate_lent(file, &mut cells[..n], count as usize),
-            Number::Cut => cut(),
-        },
-        Text::Long => pass_over(0, 1, b"too large\n"),
-        Text::Cut => cut(),
-    }
-}
-
-// 5: evaluates a set.
-pub fn evaluate_case(file: &mut [u8], cells: &mut [u8]) -> bool
-    requires { ⌜ length (now cells) ≤ 4096 ⌝ }
-{
-    match read_string(file) {
-        Text::Holds(n) => evaluate_on(&file[..n], cells),
-        Text::Long => pass_over(1, 1, b"too large\n"),
-        Text::Cut => cut(),
-    }
-}
 
 // Lends so many rows, numbers and bytes of output.
 fn compose_lent(first: &[u8], second: &[u8], r: usize, n: usize, o: usize) -> bool

@@ -1,10 +1,10 @@
--- `cases::set_cases::unchanging_lent`: so many bytes of the output are lent.
+-- `cases::new_set::unchanging_lent`: so many bytes of the output are lent.
 use lib.Seq.{length-take-le}
 use mathlib.Core.Path.{sym}
 use native.Mathlib.Omega.{arith}
 use borrow.Author.Needs.{needs}
-use Rattle.cases.proofs.set_cases.unchanging_lent.Statement.{statement}
-use Rattle.cases.proofs.set_cases.unchanging_lent.Tie as tie
+use Rattle.cases.proofs.new_set.unchanging_lent.Statement.{statement}
+use Rattle.cases.proofs.new_set.unchanging_lent.Tie as tie
 
 too-large-requires : tie.Need-too-large-requires
 too-large-requires c κs = search needs
