@@ -1,10 +1,8 @@
 // Reads the next case and answers it.
-use crate::program_cases::check_case;
-use crate::program_cases::scan_case;
-use crate::set_cases::check_set_case;
-use crate::set_cases::compose_case;
-use crate::set_cases::evaluate_case;
-use crate::set_cases::unchanging_case;
+use crate::new_set::compose_case;
+use crate::new_set::unchanging_case;
+use crate::one_file::check_case;
+use crate::one_file::storage_case;
 use harness::pass_over;
 use harness::show::cut;
 ghost use Prim.Native.Nat.{_≤_};
@@ -15,11 +13,11 @@ fn run_operation(operation: u8, file: &mut [u8], cells: &mut [u8]) -> bool
     requires { ⌜ length (now cells) ≤ 4096 ⌝ }
 {
     match operation {
-        1 => check_case(file),
-        2 => scan_case(file, cells),
+        1 => check_case(false, file),
+        2 => storage_case(false, file, cells),
         3 => pass_over(1, 4, b"not yet\n"),
-        4 => check_set_case(file),
-        5 => evaluate_case(file, cells),
+        4 => check_case(true, file),
+        5 => storage_case(true, file, cells),
         6 => compose_case(file),
         7 => unchanging_case(),
         _ => cut(),

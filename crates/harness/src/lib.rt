@@ -1,6 +1,7 @@
-// What a program that runs case files is made of: it reads fields, writes answers, and fills and tests what it lends.
+// What a program that runs case files is made of: it reads fields, runs operations on what it lends and tests that, and writes answers.
 pub mod lent;
 pub mod read;
+pub mod run;
 pub mod show;
 
 use crate::read::skip_bytes;

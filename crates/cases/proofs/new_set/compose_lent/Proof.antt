@@ -1,10 +1,10 @@
--- `cases::set_cases::compose_lent`: so many elements of each array are lent.
+-- `cases::new_set::compose_lent`: so many elements of each array are lent.
 use lib.Seq.{length-take-le}
 use mathlib.Core.Path.{sym}
 use native.Mathlib.Omega.{arith}
 use borrow.Author.Needs.{needs}
-use Rattle.cases.proofs.set_cases.compose_lent.Statement.{statement}
-use Rattle.cases.proofs.set_cases.compose_lent.Tie as tie
+use Rattle.cases.proofs.new_set.compose_lent.Statement.{statement}
+use Rattle.cases.proofs.new_set.compose_lent.Tie as tie
 
 array-borrow-prefix-rows : tie.Need-array-borrow-prefix-rows
 array-borrow-prefix-rows c = search needs

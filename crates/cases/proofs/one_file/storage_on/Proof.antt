@@ -1,9 +1,9 @@
--- `cases::set_cases::evaluate_on`: the storage that was read is a part of what is lent, so no longer than that.
+-- `cases::one_file::storage_on`: the storage that was read is a part of what is lent, so no longer than that.
 use Rattle.harness.specs.Fields.{held, held-part}
 use native.Mathlib.Omega.{arith}
 use borrow.Author.Needs.{needs}
-use Rattle.cases.proofs.set_cases.evaluate_on.Statement.{statement}
-use Rattle.cases.proofs.set_cases.evaluate_on.Tie as tie
+use Rattle.cases.proofs.one_file.storage_on.Statement.{statement}
+use Rattle.cases.proofs.one_file.storage_on.Tie as tie
 
 read-string-requires : tie.Need-read-string-requires
 read-string-requires c κs = search needs
@@ -14,26 +14,23 @@ enum-known-n c = search needs
 read-number-requires : tie.Need-read-number-requires
 read-number-requires c κs = search needs
 
-enum-known-count : tie.Need-enum-known-count
-enum-known-count c = search needs
+enum-known-number : tie.Need-enum-known-number
+enum-known-number c = search needs
 
-slice-relend-prefix-evaluate-lent : tie.Need-slice-relend-prefix-evaluate-lent
-slice-relend-prefix-evaluate-lent c =
+slice-relend-prefix-run-on : tie.Need-slice-relend-prefix-run-on
+slice-relend-prefix-run-on c =
     let s = c .before .before .before .before .before .before .before .before .before .read-string in
     let n = c .before .before .before .before .before .n .given .0 .0 in
     held (s .result) n (s .last .0) (s .ensures) (cc) (s .kept .0)
 
-slice-aggregate-evaluate-lent : tie.Need-slice-aggregate-evaluate-lent
-slice-aggregate-evaluate-lent c =
+slice-aggregate-run-on : tie.Need-slice-aggregate-run-on
+slice-aggregate-run-on c =
     let s = c .before .before .before .before .before .before .before .before .before .before .read-string in
     let n = c .before .before .before .before .before .before .n .given .0 .0 in
     held-part (s .result) n (s .last .0) (s .ensures) (cc) (s .kept .0)
 
-cast-evaluate-lent : tie.Need-cast-evaluate-lent
-cast-evaluate-lent c = search needs
-
-evaluate-lent-requires : tie.Need-evaluate-lent-requires
-evaluate-lent-requires c κs =
+run-on-requires : tie.Need-run-on-requires
+run-on-requires c κs =
     let s = c .before .before .before .before .before .before .before .before .before .before .read-string in
     let n = c .before .before .before .before .before .before .n .given .0 .0 in
     omega (
@@ -88,18 +85,17 @@ same-length-4 c = search needs
 returns-4 : tie.Need-returns-4
 returns-4 c = search needs
 
-pub evaluate-on-spec : {M : Type 1} → statement M
-evaluate-on-spec =
+pub storage-on-spec : {M : Type 1} → statement M
+storage-on-spec =
     tie.close
     (tie.spec
     read-string-requires
     enum-known-n
     read-number-requires
-    enum-known-count
-    slice-relend-prefix-evaluate-lent
-    slice-aggregate-evaluate-lent
-    cast-evaluate-lent
-    evaluate-lent-requires
+    enum-known-number
+    slice-relend-prefix-run-on
+    slice-aggregate-run-on
+    run-on-requires
     enum-told
     cut-requires
     enum-told-2

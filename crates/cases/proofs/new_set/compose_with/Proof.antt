@@ -1,8 +1,8 @@
--- `cases::set_cases::compose_with`: the second file is a part of what is lent.
+-- `cases::new_set::compose_with`: the second file is a part of what is lent.
 use Rattle.harness.specs.Fields.{held, held-part}
 use borrow.Author.Needs.{needs}
-use Rattle.cases.proofs.set_cases.compose_with.Statement.{statement}
-use Rattle.cases.proofs.set_cases.compose_with.Tie as tie
+use Rattle.cases.proofs.new_set.compose_with.Statement.{statement}
+use Rattle.cases.proofs.new_set.compose_with.Tie as tie
 
 read-string-requires : tie.Need-read-string-requires
 read-string-requires c κs = search needs

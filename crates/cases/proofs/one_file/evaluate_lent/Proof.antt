@@ -1,10 +1,10 @@
--- `cases::set_cases::evaluate_lent`: the copy has as many bytes as the storage.
+-- `cases::one_file::evaluate_lent`: the copy has as many bytes as the storage.
 use lib.Seq.{length-take-le}
 use mathlib.Core.Path.{sym}
 use native.Mathlib.Omega.{arith}
 use borrow.Author.Needs.{needs}
-use Rattle.cases.proofs.set_cases.evaluate_lent.Statement.{statement}
-use Rattle.cases.proofs.set_cases.evaluate_lent.Tie as tie
+use Rattle.cases.proofs.one_file.evaluate_lent.Statement.{statement}
+use Rattle.cases.proofs.one_file.evaluate_lent.Tie as tie
 
 too-large-requires : tie.Need-too-large-requires
 too-large-requires c κs = search needs

@@ -1,10 +1,10 @@
--- `cases::program_cases::scan_shown`: the copy has as many bytes as the storage.
+-- `cases::one_file::scan_lent`: the copy has as many bytes as the storage.
 use mathlib.Core.Path.{sym}
 use lib.Seq.{length-take-le}
 use native.Mathlib.Omega.{arith}
 use borrow.Author.Needs.{needs}
-use Rattle.cases.proofs.program_cases.scan_shown.Statement.{statement}
-use Rattle.cases.proofs.program_cases.scan_shown.Tie as tie
+use Rattle.cases.proofs.one_file.scan_lent.Statement.{statement}
+use Rattle.cases.proofs.one_file.scan_lent.Tie as tie
 
 buffer-requires : tie.Need-buffer-requires
 buffer-requires c κs = search needs
@@ -24,8 +24,8 @@ same-length c = search needs
 returns : tie.Need-returns
 returns c = search needs
 
-pub scan-shown-spec : {M : Type 1} → statement M
-scan-shown-spec =
+pub scan-lent-spec : {M : Type 1} → statement M
+scan-lent-spec =
     tie.close
     (tie.spec
     buffer-requires

@@ -1,8 +1,8 @@
--- `cases::program_cases::check_case`: the file that was read is a part of what is lent.
+-- `cases::one_file::check_case`: the file that was read is a part of what is lent.
 use Rattle.harness.specs.Fields.{held, held-part}
 use borrow.Author.Needs.{needs}
-use Rattle.cases.proofs.program_cases.check_case.Statement.{statement}
-use Rattle.cases.proofs.program_cases.check_case.Tie as tie
+use Rattle.cases.proofs.one_file.check_case.Statement.{statement}
+use Rattle.cases.proofs.one_file.check_case.Tie as tie
 
 read-string-requires : tie.Need-read-string-requires
 read-string-requires c κs = search needs
@@ -10,21 +10,18 @@ read-string-requires c κs = search needs
 enum-known-n : tie.Need-enum-known-n
 enum-known-n c = search needs
 
-slice-reshare-prefix-check-program : tie.Need-slice-reshare-prefix-check-program
-slice-reshare-prefix-check-program c =
+slice-reshare-prefix-check-file : tie.Need-slice-reshare-prefix-check-file
+slice-reshare-prefix-check-file c =
     let s = c .before .before .before .before .before .read-string in
     held (s .result) (c .before .n .given .0 .0) (s .last .0) (s .ensures) (cc) (s .kept .0)
 
-slice-aggregate-check-program : tie.Need-slice-aggregate-check-program
-slice-aggregate-check-program c =
+slice-aggregate-check-file : tie.Need-slice-aggregate-check-file
+slice-aggregate-check-file c =
     let s = c .before .before .before .before .before .before .read-string in
     held-part (s .result) (c .before .before .n .given .0 .0) (s .last .0) (s .ensures) (cc) (s .kept .0)
 
-check-program-requires : tie.Need-check-program-requires
-check-program-requires c κs = search needs
-
-say-checked-requires : tie.Need-say-checked-requires
-say-checked-requires c κs = search needs
+check-file-requires : tie.Need-check-file-requires
+check-file-requires c κs = search needs
 
 enum-told : tie.Need-enum-told
 enum-told c = search needs
@@ -62,10 +59,9 @@ check-case-spec =
     (tie.spec
     read-string-requires
     enum-known-n
-    slice-reshare-prefix-check-program
-    slice-aggregate-check-program
-    check-program-requires
-    say-checked-requires
+    slice-reshare-prefix-check-file
+    slice-aggregate-check-file
+    check-file-requires
     enum-told
     too-large-requires
     enum-told-2
