@@ -1,4 +1,4 @@
 pub mod Answers
 pub mod Words
 pub mod Refusals
-pub mod Clearing
+pub mod Filling

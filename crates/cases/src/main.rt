@@ -1,7 +1,7 @@
 // Reads cases from standard input and writes an answer to each, a line a case, to standard output.
 mod answer;
-mod read;
-mod show;
+mod new_set;
+mod one_file;
 
 use crate::answer::run_case;
 

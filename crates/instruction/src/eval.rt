@@ -1,7 +1,7 @@
 // The value of an expression on a storage.
-use crate::bits::both;
-use crate::bits::either;
 use base::bytes::wide;
+use storage::bits::both;
+use storage::bits::either;
 ghost use mathlib.Core.Path.{_≡_};
 ghost use Rattle.instruction.specs.Value.{Readable, Values, joined};
 

@@ -1,8 +1,8 @@
 // What the instructions of R17 to R19 do to a storage.
-use crate::bits::both;
-use crate::bits::either;
 use base::kinds::Cell;
 use base::shape::Shape;
+use storage::bits::both;
+use storage::bits::either;
 use storage::cell_at;
 use storage::drop_top;
 use storage::push;

@@ -1,13 +1,14 @@
 -- One set after another evaluates as first then second, over a canonical table; and the table only grows.
-use Prim.Native.Nat.{ℕ, zero, suc, _+_, _≤_, _<_}
+use Prim.Native.Nat.{ℕ, zero, suc, _+_, _-_, _≤_, _<_}
 use mathlib.Core.Path.{_≡_, refl, sym, ap, _∙_}
 use mathlib.Core.Bool.{Bool, true, false}
 use mathlib.Core.List.{List, [], _∷_, _++_, map-map}
 use native.Mathlib.Omega.{arith}
+use native.Mathlib.Nat.{add-zero, add-suc}
 use native.Mathlib.Decide.{decLt}
 use lib.ListN.{length, getD, length-append, length-map, List·getD-append, List·getD-map}
 use lib.Seq.{getD-append-seam}
-use Rattle.rules.specs.Rows.{Row, leaf, inv, bin, rowAt, value, make, plan, add}
+use Rattle.rules.specs.Rows.{Row, leaf, inv, bin, rowAt, value, make, plan, add, Added}
 use Rattle.rules.specs.Sets.{Heads, act, reaches, Carried, carryOne, carryRow, carry, after}
 use Rattle.laws.specs.Lists.{map-ext, map-low, elem-at}
 use Rattle.laws.specs.Canonical.{Operands, Canonical}
@@ -88,6 +89,35 @@ snoc-low [] a n m h g p zero = p
 snoc-low [] a n m h g p (suc i) = omega arith
 snoc-low (b ∷ l) a n m h g p zero = omega (arith, h 0)
 snoc-low (b ∷ l) a n m h g p (suc i) = snoc-low l a n m (λ i. h (suc i)) g p i
+
+-- Carrying gives every row a number, whatever puts the rows, and a number that was given stays.
+module _ (put : List Row → Row → Added) (t : List Row) (x : List ℕ) (u : List Row) (y : List ℕ) where
+  row-size : (m : Carried) (k : ℕ) (r : Row) (b : Bool) → length (m .new) ≡ k → length (carryRow put x m r b .new) ≡ suc k
+  row-size m k r false e = snoc-length (m .new) 0 k e
+  row-size m k r true e = snoc-length (m .new) (carryOne put x m r .row) k e
+
+  pub carry-size : (k : ℕ) → length (carry put t x u y k .new) ≡ k
+  unfolding carry
+  carry-size zero = refl
+  carry-size (suc k) = row-size (carry put t x u y k) k (rowAt u k) (reaches u y k) (carry-size k)
+
+  row-old : (m : Carried) (k : ℕ) (r : Row) (b : Bool) → length (m .new) ≡ k → (i : ℕ) → i < k
+      → getD (carryRow put x m r b .new) i 0 ≡ getD (m .new) i 0
+  row-old m k r false e i h = snoc-old (m .new) 0 k e i h
+  row-old m k r true e i h = snoc-old (m .new) (carryOne put x m r .row) k e i h
+
+  carry-old : (k i : ℕ) → i < k → getD (carry put t x u y (suc k) .new) i 0 ≡ getD (carry put t x u y k .new) i 0
+  unfolding carry
+  carry-old k i h = row-old (carry put t x u y k) k (rowAt u k) (reaches u y k) (carry-size k) i h
+
+  carry-more : (k i : ℕ) → i < k → (d : ℕ) → getD (carry put t x u y (k + d) .new) i 0 ≡ getD (carry put t x u y k .new) i 0
+  carry-more k i h zero = rw add-zero
+  carry-more k i h (suc d) = rw add-suc (carry-old (k + d) i (omega arith) ∙ carry-more k i h d)
+
+  pub carry-stays : (k n i : ℕ) → i < k → k ≤ n → getD (carry put t x u y n .new) i 0 ≡ getD (carry put t x u y k .new) i 0
+  carry-stays k n i h p =
+      let z : k + (n - k) ≡ n = omega arith in
+      rw z at (carry-more k i h (n - k))
 
 -- The leaf's row of a canonical table is the leaf of its own number.
 pub leaf-own : {C : ℕ} {t : List Row} → Canonical C t → (k i : ℕ) → k < length t → rowAt t k ≡ leaf i → (i ≡ k) × (k < 2 + C)
@@ -189,7 +219,7 @@ module _ {C : ℕ} (t : List Row) (x : List ℕ) (u : List Row) (y : List ℕ) (
             (λ i l f s. ext-value more s (getD (m .new) i 0) (g .low i) ∙ g .val i l f s) (λ f. z .val);
       }
 
-  stages : (k : ℕ) → k ≤ length u → Stage C t x u y k (carry add t x u y k)
+  pub stages : (k : ℕ) → k ≤ length u → Stage C t x u y k (carry add t x u y k)
   unfolding carry
   stages zero h = record {
     canonical = X .canonical;

@@ -15,8 +15,9 @@ use Rattle.rules.specs.Operations.{evaluateSet, setOf, composed, composeSets, u
 use Rattle.rules.specs.Lists.{from, elem}
 use Rattle.laws.specs.Lists.{length-from, getD-from, map-shift, map-from, elem-at}
 use Rattle.laws.specs.Reach.{needs-keeps}
-use Rattle.laws.specs.Canonical.{Proper}
-use Rattle.laws.specs.Rows.{base-at, length-base}
+use Rattle.laws.specs.Canonical.{Canonical, Proper}
+use Rattle.laws.specs.Rows.{length-base}
+use Rattle.laws.specs.Rule.{base-canonical}
 use Rattle.laws.specs.After.{Stands, Acts, over, snoc-length, snoc-each, after-acts}
 use Rattle.laws.specs.Squeeze.{squeeze-after, squeeze-stands, squeeze-acts, squeeze-few}
 use Rattle.laws.specs.Named.{squeeze-named, squeeze-fixed}
@@ -101,55 +102,55 @@ pub unchanging-before : (z : TransferSet) → Whole z
     → composeSets (unchangingSet (z .shape)) z ≡ z
 unchanging-before z w n = ap (setOf (z .shape)) (sym (squeeze-after w) ∙ squeeze-fixed w n) ∙ setOf-fixed z w n
 
--- Leaves are carried to the heads of x, and add no row.
-record Left (C : ℕ) (t : List Row) (x : List ℕ) (k : ℕ) (m : Carried) : Type 0 where
-  size : length (m .new) ≡ k
-  tab : m .tab ≡ t
-  same : (i : ℕ) → i < k → reaches (base C) (unchanging C) i ≡ true → getD (m .new) i 0 ≡ getD (0 ∷ 1 ∷ x) i 0
+-- ---- the leaves of the second set
 
-module _ (C : ℕ) (t : List Row) (x : List ℕ) where
-  left-row : (k : ℕ) (m : Carried) → Left C t x k m → k < 2 + C → (b : Bool) → reaches (base C) (unchanging C) k ≡ b
-      → Left C t x (suc k) (carryRow add x m (rowAt (base C) k) b)
+-- Leaves are carried to the heads of x, and add no row.
+pub record Left (t : List Row) (x : List ℕ) (u : List Row) (y : List ℕ) (k : ℕ) (m : Carried) : Type 0 where
+  pub size : length (m .new) ≡ k
+  pub tab : m .tab ≡ t
+  pub same : (i : ℕ) → i < k → reaches u y i ≡ true → getD (m .new) i 0 ≡ getD (0 ∷ 1 ∷ x) i 0
+
+module _ {C : ℕ} (t : List Row) (x : List ℕ) (u : List Row) (y : List ℕ) (w : Canonical C u) where
+  left-row : (k : ℕ) (m : Carried) → Left t x u y k m → k < 2 + C → (b : Bool) → reaches u y k ≡ b
+      → Left t x u y (suc k) (carryRow add x m (rowAt u k) b)
   left-row k m g h b q = go b q
     where
-      one : (a : ℕ) → (reaches (base C) (unchanging C) k ≡ true → a ≡ getD (0 ∷ 1 ∷ x) k 0)
-          → Left C t x (suc k) (record { tab = m .tab; new = m .new ++ (a ∷ []) })
+      one : (a : ℕ) → (reaches u y k ≡ true → a ≡ getD (0 ∷ 1 ∷ x) k 0)
+          → Left t x u y (suc k) (record { tab = m .tab; new = m .new ++ (a ∷ []) })
       one a p = record {
         size = snoc-length (m .new) a k (g .size);
         tab = g .tab;
-        same = snoc-each (λ i n. reaches (base C) (unchanging C) i ≡ true → n ≡ getD (0 ∷ 1 ∷ x) i 0) (m .new) a k (g .size)
-            (g .same) p;
+        same = snoc-each (λ i n. reaches u y i ≡ true → n ≡ getD (0 ∷ 1 ∷ x) i 0) (m .new) a k (g .size) (g .same) p;
       }
 
-      go : (b : Bool) → reaches (base C) (unchanging C) k ≡ b → Left C t x (suc k) (carryRow add x m (rowAt (base C) k) b)
+      go : (b : Bool) → reaches u y k ≡ b → Left t x u y (suc k) (carryRow add x m (rowAt u k) b)
       go false q = one 0 (λ r. cc)
-      go true q = rw (base-at C k h) (one (getD (0 ∷ 1 ∷ x) k 0) (λ r. refl))
+      go true q = rw (w .leaf-at k h) (one (getD (0 ∷ 1 ∷ x) k 0) (λ r. refl))
 
-  left-carried : (k : ℕ) → k ≤ 2 + C → Left C t x k (carry add t x (base C) (unchanging C) k)
+  pub left-carried : (k : ℕ) → k ≤ 2 + C → Left t x u y k (carry add t x u y k)
   unfolding carry
   left-carried zero h = record { size = refl; tab = refl; same = λ i p. absurd (omega arith) }
-  left-carried (suc k) h = left-row k (carry add t x (base C) (unchanging C) k) (left-carried k (omega arith)) (omega arith)
-      (reaches (base C) (unchanging C) k) refl
+  left-carried (suc k) h = left-row k (carry add t x u y k) (left-carried k (omega arith)) (omega arith) (reaches u y k) refl
 
-  -- The unchanging set after another leaves its table and its heads.
-  after-unchanging : length x ≡ C → after t x (base C) (unchanging C) ≡ over t x
-  unfolding after unchanging
-  after-unchanging e =
-      let m = carry add t x (base C) (from 2 C) (length (base C)) in
-      let g = left-carried (length (base C)) (omega (arith, length-base C)) in
-      λ i. record { tab = g .tab i; heads = heads m g i }
-    where
-      head : (c : ℕ) → c < C → elem (rowOfCell c) (from 2 C) ≡ true
-      head c h =
-          let p : getD (from 2 C) c 0 ≡ rowOfCell c = getD-from 2 C c 0 h ∙ omega arith in
-          rw p at (elem-at (from 2 C) c 0 (omega (arith, length-from 2 C)))
+-- The unchanging set after another leaves its table and its heads.
+after-unchanging : (C : ℕ) (t : List Row) (x : List ℕ) → length x ≡ C → after t x (base C) (unchanging C) ≡ over t x
+unfolding after unchanging
+after-unchanging C t x e =
+    let m = carry add t x (base C) (from 2 C) (length (base C)) in
+    let g = left-carried t x (base C) (from 2 C) (base-canonical C) (length (base C)) (omega (arith, length-base C)) in
+    λ i. record { tab = g .tab i; heads = heads m g i }
+  where
+    head : (c : ℕ) → c < C → elem (rowOfCell c) (from 2 C) ≡ true
+    head c h =
+        let p : getD (from 2 C) c 0 ≡ rowOfCell c = getD-from 2 C c 0 h ∙ omega arith in
+        rw p at (elem-at (from 2 C) c 0 (omega (arith, length-from 2 C)))
 
-      heads : (m : Carried) → Left C t x (length (base C)) m → map (λ h. getD (m .new) h 0) (from 2 C) ≡ x
-      heads m g = map-shift (λ h. getD (m .new) h 0) 1 C ∙ map-shift (λ h. getD (m .new) (suc h) 0) 0 C
-          ∙ ap (λ n. map (λ h. getD (m .new) (suc (suc h)) 0) (from 0 n)) (sym e)
-          ∙ map-from (λ h. getD (m .new) (suc (suc h)) 0) 0 x
-          (λ c h. g .same (rowOfCell c) (omega (arith, length-base C))
-          (needs-keeps (base C) (length (base C)) (rowOfCell c) (from 2 C) (head c (omega arith))))
+    heads : (m : Carried) → Left t x (base C) (from 2 C) (length (base C)) m → map (λ h. getD (m .new) h 0) (from 2 C) ≡ x
+    heads m g = map-shift (λ h. getD (m .new) h 0) 1 C ∙ map-shift (λ h. getD (m .new) (suc h) 0) 0 C
+        ∙ ap (λ n. map (λ h. getD (m .new) (suc (suc h)) 0) (from 0 n)) (sym e)
+        ∙ map-from (λ h. getD (m .new) (suc (suc h)) 0) 0 x
+        (λ c h. g .same (rowOfCell c) (omega (arith, length-base C))
+        (needs-keeps (base C) (length (base C)) (rowOfCell c) (from 2 C) (head c (omega arith))))
 
 -- The unchanging set after another gives the other.
 pub unchanging-after : (z : TransferSet) → Whole z

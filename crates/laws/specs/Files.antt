@@ -1,8 +1,8 @@
 -- The laws of whole operations: what building and composing write is accepted, evaluating it is what the machine leaves, and the unchanging set gives back bytes.
 use Prim.Native.Nat.{ℕ, _+_, _-_, _^_, _≤_}
-use mathlib.Core.Path.{_≡_, sym, ap, _∙_}
+use mathlib.Core.Path.{_≡_, refl, sym, ap, _∙_}
 use mathlib.Core.Bool.{Bool, true, not, _||_}
-use mathlib.Core.List.{List, []}
+use mathlib.Core.List.{List, [], map}
 use native.Mathlib.Omega.{arith}
 use native.Mathlib.Nat.{sub-zero}
 use lib.ListN.{length, getD, length-map}
@@ -66,7 +66,7 @@ build-accepted e s file rows numbers heads out P bytes p q =
     (read-shape e file P p) (d .1)
 
 -- Shapes that are found to be the same are equal.
-same-shape : (a b : Shape) → sameShape a b ≡ true → a ≡ b
+pub same-shape : (a b : Shape) → sameShape a b ≡ true → a ≡ b
 same-shape a b q =
     let (d, r) = both-true (eqb (a .depth) (b .depth)) _ q in
     let (i, t) = both-true (eqb (a .inputs) (b .inputs)) _ r in
@@ -126,22 +126,34 @@ scan-leaves P w s e budget y q =
     let b = run-past P (l .steps) (y .steps + l .steps) (due 0 s []) (evaluateSet (programSet P) s) (l .stops) (omega arith) in
     cc (a, b)
 
--- A storage that is granted has as many cells as it should.
-storage-length : (C : ℕ) (storage : List ℕ) → Grants (λ s. length s ≡ C) (checkStorage C storage)
+-- A storage that is granted has as many cells as it should, and is read bit by bit.
+record Read (C : ℕ) (storage : List ℕ) (s : List Bool) : Type 0 where
+  long : length storage ≡ C
+  is : s ≡ map (eqb 1) storage
+
+storage-bits : (C : ℕ) (storage : List ℕ) → Grants (Read C storage) (checkStorage C storage)
 unfolding checkStorage
-storage-length C storage =
+storage-bits C storage =
     grants-check (not (eqb (length storage) C)) _ _ _ λ q.
     grants-check (ltb (seek (λ c. ltb 1 (getD storage c 0)) C 0) C) _ _ _ λ _.
-    grants (length-map storage (eqb 1) ∙ eqb-true (length storage) C (not-false (eqb (length storage) C) q))
+    grants (record { long = eqb-true (length storage) C (not-false (eqb (length storage) C) q); is = refl })
 
--- A granted evaluation hands back what evaluating the set gives.
-evaluate-value : (e : Edition) (file storage : List ℕ) (lent : ℕ) (z : TransferSet) (s v : List Bool)
-    → readSet e file ≡ granted z
-    → checkStorage (cells (z .shape)) storage ≡ granted s → evaluate e file storage lent ≡ granted v → v ≡ evaluateSet z s
+-- What a granted evaluation has read, and that it hands back what evaluating the set gives.
+pub record Evaluates (e : Edition) (file storage : List ℕ) (v : List Bool) : Type 0 where
+  pub set : TransferSet
+  pub read : readSet e file ≡ granted set
+  pub long : length storage ≡ cells (set .shape)
+  pub is : v ≡ evaluateSet set (map (eqb 1) storage)
+
+pub evaluate-granted : (e : Edition) (file storage : List ℕ) (lent : ℕ) (v : List Bool) → evaluate e file storage lent ≡ granted v
+    → Evaluates e file storage v
 unfolding evaluate
-evaluate-value e file storage lent z s v r c q =
-    let f = check-granted (ltb lent (valuesToEvaluate z)) 10 0 (λ _. granted (evaluateSet z s)) (rw (r, c) at q) in
-    cc
+evaluate-granted e file storage lent v q =
+    let (z, r, rest) = bind-granted (readSet e file) _ q in
+    let (s, c, last) = bind-granted (checkStorage (cells (z .shape)) storage) _ rest in
+    let k = grants-of (storage-bits (cells (z .shape)) storage) c in
+    let f = check-granted (ltb lent (valuesToEvaluate z)) 10 0 (λ _. granted (evaluateSet z s)) last in
+    record { set = z; read = r; long = k .long; is = cc (k .is) }
 
 -- The same of files: where a program is built, evaluating the file written gives the storage that a granted scan leaves.
 pub evaluate-is-scan : (e : Edition) → Sensible e → (file : List ℕ) (rows numbers heads out : ℕ) (bytes : List ℕ)
@@ -153,8 +165,11 @@ evaluate-is-scan e sensible file rows numbers heads out bytes q storage budget l
     let (P, p, rest) = bind-granted (readProgram e file) _ sc in
     let (s, c, r) = bind-granted (checkStorage (cells (P .shape)) storage) _ rest in
     let set = build-accepted e sensible file rows numbers heads out P bytes p q in
-    evaluate-value e bytes storage lent (programSet P) s v set c ev
-    ∙ sym (scan-leaves P (read-wellformed e file P p) s (grants-of (storage-length (cells (P .shape)) storage) c) budget y r)
+    let k = grants-of (storage-bits (cells (P .shape)) storage) c in
+    let g = evaluate-granted e bytes storage lent v ev in
+    let same : g .set ≡ programSet P = cc (g .read, set) in
+    g .is ∙ ap (λ z. evaluateSet z (map (eqb 1) storage)) same ∙ ap (evaluateSet (programSet P)) (sym (k .is))
+    ∙ sym (scan-leaves P (read-wellformed e file P p) s (rw (k .is) (length-map storage (eqb 1) ∙ k .long)) budget y r)
 
 -- ---- the unchanging set gives back bytes
 

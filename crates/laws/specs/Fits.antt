@@ -23,7 +23,7 @@ use Rattle.laws.specs.Rows.{same-true, same-refl, find-first, find-at}
 -- ---- rows that fit
 
 -- Operands that are all found below k are below k.
-all-below : (k : ℕ) (r : Row) → allBelow k (operands r) ≡ true → Below k r
+pub all-below : (k : ℕ) (r : Row) → allBelow k (operands r) ≡ true → Below k r
 unfolding allBelow
 all-below k (leaf i) e = tt
 all-below k (inv a) e = ltb-true a k (both-true (ltb a k) true e .0)
@@ -39,7 +39,7 @@ below-all k (inv a) h = rw (lt-ltb a k h)
 below-all k (bin o a b) h = rw (lt-ltb a k (h .0), lt-ltb b k (h .1))
 
 -- A plan that is found to make a row does.
-makes-true : (p : Plan) (r : Row) → makes p r ≡ true → p ≡ make r
+pub makes-true : (p : Plan) (r : Row) → makes p r ≡ true → p ≡ make r
 makes-true (have i) r e =
     let z : _≡_ {A = ℕ} 0 1 = cc in
     absurd (omega arith)

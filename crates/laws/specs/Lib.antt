@@ -11,6 +11,7 @@ pub mod Rows
 pub mod Grow
 pub mod Rule
 pub mod Reach
+pub mod Search
 pub mod After
 pub mod Choice
 pub mod Build
@@ -22,3 +23,4 @@ pub mod SetFile
 pub mod Compose
 pub mod Room
 pub mod Files
+pub mod Composition

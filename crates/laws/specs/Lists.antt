@@ -5,6 +5,7 @@ use mathlib.Core.Bool.{Bool, true, false, not, _||_, or-assoc, or-true}
 use mathlib.Core.List.{List, [], _∷_, _++_, map}
 use native.Mathlib.Omega.{arith}
 use native.Mathlib.Nat.{add-zero, add-suc, suc-add, zero-add}
+use native.Mathlib.Decide.{decLt}
 use lib.ListN.{length, getD}
 use lib.Dec.{eqb, ltb}
 use borrow.Author.Tests.{ltb-false, not-false, le-ltb, eq-eqb}
@@ -39,6 +40,12 @@ pub map-low : (g : ℕ → ℕ) (n : ℕ) → ((h : ℕ) → g h < n) → (l : L
 map-low g n e [] k = omega (arith, e 0)
 map-low g n e (x ∷ l) zero = e x
 map-low g n e (x ∷ l) (suc k) = map-low g n e l k
+
+-- An element of the images of a list.
+pub getD-map : {A B : Type 0} (f : A → B) (l : List A) (i : ℕ) (d : A) (e : B) → i < length l → getD (map f l) i e ≡ f (getD l i d)
+getD-map f [] i d e h = absurd (omega arith)
+getD-map f (x ∷ l) zero d e h = refl
+getD-map f (x ∷ l) (suc i) d e h = getD-map f l i d e (omega arith)
 
 module _ {A : Type 0} where
   -- The images of the numbers from i + 1 on, by the numbers from i on.
@@ -84,6 +91,48 @@ seek-end f (suc n) i e =
     let q : f i ≡ false = ap f (sym (add-zero i)) ∙ e 0 (omega arith) in
     let rest : seek f n (suc i) ≡ suc i + n = seek-end f n (suc i) (λ k h. ap f (omega arith) ∙ e (suc k) (omega arith)) in
     ap (λ t. orElse t i (λ u. seek f n (suc i))) q ∙ rest ∙ omega arith
+
+-- Where number k from i on passes the test and none before it does, a search finds it.
+pub seek-first : (f : ℕ → Bool) (n i k : ℕ) → k < n → f (i + k) ≡ true → ((j : ℕ) → j < k → f (i + j) ≡ false)
+    → seek f n i ≡ i + k
+unfolding seek
+seek-first f zero i k h p e = absurd (omega arith)
+seek-first f (suc n) i zero h p e =
+    let q : f i ≡ true = ap f (sym (add-zero i)) ∙ p in
+    ap (λ t. orElse t i (λ u. seek f n (suc i))) q ∙ omega arith
+seek-first f (suc n) i (suc k) h p e =
+    let q : f i ≡ false = ap f (sym (add-zero i)) ∙ e 0 (omega arith) in
+    let none : (j : ℕ) → j < k → f (suc i + j) ≡ false = λ j l. ap f (omega arith) ∙ e (suc j) (omega arith) in
+    let rest = seek-first f n (suc i) k (omega arith) (ap f (omega arith) ∙ p) none in
+    ap (λ t. orElse t i (λ u. seek f n (suc i))) q ∙ rest ∙ omega arith
+
+-- A search from i on has come to k and found none.
+pub record Searching (f : ℕ → Bool) (i k : ℕ) : Type 0 where
+  pub low : i ≤ k
+  pub none : (j : ℕ) → i ≤ j → j < k → f j ≡ false
+
+module _ {f : ℕ → Bool} {i : ℕ} where
+  pub searching-start : Searching f i i
+  searching-start = record { low = omega arith; none = λ j p q. absurd (omega arith) }
+
+  pub searching-more : (k : ℕ) → Searching f i k → f k ≡ false → Searching f i (k + 1)
+  searching-more k s e = record {
+    low = omega (arith, s .low);
+    none = λ j p q. elim (decLt j k) [
+      | yes h ↦ s .none j p h
+      | no h ↦ (let z : j ≡ k = omega arith in rw z e)
+    ];
+  }
+
+  -- It ends where the test is passed, or at its end.
+  pub searching-hit : (n k : ℕ) → Searching f i k → k < i + n → f k ≡ true → k ≡ seek f n i
+  searching-hit n k s h e =
+      let z : i + (k - i) ≡ k = omega (arith, s .low) in
+      let at = seek-first f n i (k - i) (omega arith) (rw z e) (λ j q. s .none (i + j) (omega arith) (omega arith)) in
+      sym (at ∙ z)
+
+  pub searching-end : (n k : ℕ) → Searching f i k → k ≡ i + n → k ≡ seek f n i
+  searching-end n k s e = e ∙ sym (seek-end f n i (λ j q. s .none (i + j) (omega arith) (omega arith)))
 
 -- Where a search below n comes to the end, no number below n passes the test.
 pub search-none : (f : ℕ → Bool) (n : ℕ) → ltb (seek f n 0) n ≡ false → (k : ℕ) → k < n → f k ≡ false

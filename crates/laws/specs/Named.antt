@@ -72,7 +72,7 @@ named-row t x k j h g e =
 
 module _ {C : ℕ} (t : List Row) (x : List ℕ) (w : Canonical C t) where
   -- Where every operation row is named, every one is reached, from the last row down.
-  all-reached : ((k : ℕ) → 2 + C ≤ k → k < length t → named t x k ≡ true) → (d k : ℕ) → length t ≤ k + d → 2 + C ≤ k
+  pub all-reached : ((k : ℕ) → 2 + C ≤ k → k < length t → named t x k ≡ true) → (d k : ℕ) → length t ≤ k + d → 2 + C ≤ k
       → k < length t → reaches t x k ≡ true
   unfolding named
   all-reached n zero k e h g = absurd (omega arith)

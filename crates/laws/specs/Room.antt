@@ -52,7 +52,7 @@ pub record Met (n : ℕ) (t u : List Row) : Type 0 where
   pub to-end : Grown (add full row .tab) u
 
 -- One addition appends at most one row.
-add-one-row : (t : List Row) (r : Row) → length (add t r .tab) ≤ suc (length t)
+pub add-one-row : (t : List Row) (r : Row) → length (add t r .tab) ≤ suc (length t)
 add-one-row t r = go (plan t r)
   where
     inserted : (q : Row) → Inserts t q → length (insert t q) ≤ suc (length t)

@@ -23,7 +23,7 @@ Ready k (leaf i) = ⊥
 Ready k (inv a) = a < k
 Ready k (bin o a b) = (a < k) × (b < k)
 
-ready-below : (k : ℕ) (r : Row) → Ready k r → Below k r
+pub ready-below : (k : ℕ) (r : Row) → Ready k r → Below k r
 ready-below k (leaf i) h = tt
 ready-below k (inv a) h = h
 ready-below k (bin o a b) h = h
@@ -297,13 +297,14 @@ planBin-made o a b p q = go (eqb a (absorbing o)) refl (eqb b (absorbing o)) ref
         let ne : a ≡ b → ⊥ = eqb-false a b c in
         (no-constant o a (eqb-false a _ k) (eqb-false a _ m), omega arith)
 
--- An operation row of a canonical table is an operation over earlier rows.
+-- A row that the rule makes, with its operands below k, is an operation over rows below k.
+pub made-ready : (t : List Row) (k : ℕ) (r : Row) → Below k r → plan t r ≡ make r → Ready k r
+made-ready t k (leaf i) b e =
+    let z : _≡_ {A = ℕ} 0 1 = cc in
+    absurd (omega arith)
+made-ready t k (inv a) b e = b
+made-ready t k (bin o a c) b e = b
+
+-- So is an operation row of a canonical table over earlier ones.
 pub canonical-ready : {C : ℕ} {t : List Row} → Canonical C t → (k : ℕ) → 2 + C ≤ k → k < length t → Ready k (rowAt t k)
-canonical-ready {C} {t} w k h g = go (rowAt t k) (w .earlier k h g) (w .normal k h g)
-  where
-    go : (r : Row) → Below k r → plan t r ≡ make r → Ready k r
-    go (leaf i) b e =
-        let z : _≡_ {A = ℕ} 0 1 = cc in
-        absurd (omega arith)
-    go (inv a) b e = b
-    go (bin o a c) b e = b
+canonical-ready {t = t} w k h g = made-ready t k (rowAt t k) (w .earlier k h g) (w .normal k h g)

@@ -30,6 +30,12 @@ refuse-granted true n p e =
     absurd (omega arith)
 refuse-granted false n p e = refl
 
+-- No test both fails and holds.
+pub no-false : false ≡ true → ⊥
+no-false e =
+    let z : _≡_ {A = ℕ} 0 1 = cc in
+    omega arith
+
 -- Two tests that hold together hold each.
 pub both-true : (a b : Bool) → a && b ≡ true → (a ≡ true) × (b ≡ true)
 both-true true b e = (refl, e)

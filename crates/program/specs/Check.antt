@@ -35,11 +35,11 @@ module _ (file : List ℕ) (r : Headed) (h : headVerdict r ≡ readHeader old 1 
     check-rest k c = rw (← h, z) c
 
 -- The answer that a verdict is.
-abbrev answerOf : Verdict (Unit {0}) → Checked
+abbrev pub answerOf : Verdict (Unit {0}) → Checked
 answerOf (granted u) = Granted
 answerOf (refused n p) = Refused (refusalOf n p)
 
-answer-back : (a : Checked) → answerOf (checkedVerdict a) ≡ a
+pub answer-back : (a : Checked) → answerOf (checkedVerdict a) ≡ a
 answer-back Granted = refl
 answer-back (Refused x) = ap Refused (refusal-back x)
 

@@ -11,7 +11,7 @@ use lib.Dec.{ltb, eqb}
 use borrow.Author.Tests.{ltb-false, eqb-true, not-false, lt-ltb, le-ltb, eq-eqb, ne-eqb}
 use Rattle.rules.specs.Verdict.{Verdict, granted, refused, _>>=_}
 use Rattle.rules.specs.Lists.{orElse, seek}
-use Rattle.laws.specs.Lists.{search-none, none-search}
+use Rattle.laws.specs.Lists.{search-none, none-search, seek-first}
 use Rattle.laws.specs.Verdict.{bind-granted, check-granted}
 use Rattle.rules.specs.Operations.{checkStorage}
 use Rattle.base.specs.Answers.{refusedBy}
@@ -29,20 +29,6 @@ abbrev pub checkCells : ℕ → List ℕ → Verdict (Unit {0})
 checkCells C s = do
   _ ← checkStorage C s
   granted tt
-
--- Where i passes the test and no number below it does, a search finds i.
-seek-first : (f : ℕ → Bool) (n i k : ℕ) → k < n → f (i + k) ≡ true → ((j : ℕ) → j < k → f (i + j) ≡ false)
-    → seek f n i ≡ i + k
-unfolding seek
-seek-first f zero i k h p e = absurd (omega arith)
-seek-first f (suc n) i zero h p e =
-    let q : f i ≡ true = ap f (sym (add-zero i)) ∙ p in
-    ap (λ t. orElse t i (λ u. seek f n (suc i))) q ∙ omega arith
-seek-first f (suc n) i (suc k) h p e =
-    let q : f i ≡ false = ap f (sym (add-zero i)) ∙ e 0 (omega arith) in
-    let none : (j : ℕ) → j < k → f (suc i + j) ≡ false = λ j l. ap f (omega arith) ∙ e (suc j) (omega arith) in
-    let rest = seek-first f n (suc i) k (omega arith) (ap f (omega arith) ∙ p) none in
-    ap (λ t. orElse t i (λ u. seek f n (suc i))) q ∙ rest ∙ omega arith
 
 -- A cell that is no bit.
 abbrev above : List ℕ → ℕ → Bool

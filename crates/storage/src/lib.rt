@@ -1,4 +1,6 @@
 // The cells of a storage as lent bytes: read, stored to, the stack moved, checked (R3, R16, R17, R19, R50).
+pub mod bits;
+
 use base::kinds::Cell;
 use base::refusal::Refusal;
 ghost use mathlib.Core.Path.{_≡_};

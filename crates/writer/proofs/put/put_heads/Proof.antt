@@ -1,0 +1,79 @@
+-- `writer::put::put_heads`: each turn writes one head.
+use lib.ListN.{length}
+use Prim.Native.Nat.{_-_}
+use Rattle.writer.specs.Put.{Words, words-none, newHeads, head-more, head-all}
+use native.Mathlib.Omega.{arith}
+use borrow.Author.Needs.{needs}
+use Rattle.writer.proofs.put.put_heads.Statement.{statement}
+use Rattle.writer.proofs.put.put_heads.Tie as tie
+
+abbrev Inv-loop : tie.InvT-loop
+Inv-loop out₀ heads numbers i₀ out i = Words out₀ 7 (newHeads numbers heads) out i
+
+abbrev μ-loop : tie.MeasureT-loop
+μ-loop out₀ heads numbers i₀ out i = length heads - i
+
+loop-holds : tie.Need-loop-holds Inv-loop μ-loop
+loop-holds c = words-none
+
+mul-put-word : tie.Need-mul-put-word Inv-loop μ-loop
+mul-put-word c = search needs
+
+add-put-word : tie.Need-add-put-word Inv-loop μ-loop
+add-put-word c = search needs
+
+mul-t12 : tie.Need-mul-t12 Inv-loop μ-loop
+mul-t12 c = search needs
+
+shared-slice-read-t14 : tie.Need-shared-slice-read-t14 Inv-loop μ-loop
+shared-slice-read-t14 c = search needs
+
+number-of-requires : tie.Need-number-of-requires Inv-loop μ-loop
+number-of-requires c κs =
+    let c7 = c .before .before .before .before .before .before .before in
+    c7 .pre .1 _
+
+put-word-requires : tie.Need-put-word-requires Inv-loop μ-loop
+put-word-requires c κs = search needs
+
+add-i : tie.Need-add-i Inv-loop μ-loop
+add-i c = search needs
+
+loop-less : tie.Need-loop-less Inv-loop μ-loop
+loop-less c = search needs
+
+loop-again : tie.Need-loop-again Inv-loop μ-loop
+loop-again c =
+    let c3 = c .before .before .before in
+    let c7 = c3 .before .before .before .before in
+    let c11 = c7 .before .before .before .before in
+    let a = c11 .args in
+    head-more (a .numbers .now) (a .heads .now) (c7 .loop .inv) (omega arith) _ _
+    (c3 .number-of .ensures) (c .before .before .put-word .ensures)
+
+same-length : tie.Need-same-length Inv-loop μ-loop
+same-length c = search needs
+
+returns : tie.Need-returns Inv-loop μ-loop
+returns c =
+    let c5 = c .before .before .before .before .before in
+    let a = c5 .args in head-all (a .numbers .now) (a .heads .now) (c .before .loop .inv) (omega arith)
+
+pub put-heads-spec : {M : Type 1} → statement M
+put-heads-spec =
+    tie.close
+    (tie.spec
+    Inv-loop
+    μ-loop
+    loop-holds
+    mul-put-word
+    add-put-word
+    mul-t12
+    shared-slice-read-t14
+    number-of-requires
+    put-word-requires
+    add-i
+    loop-less
+    loop-again
+    same-length
+    returns)
