@@ -26,7 +26,8 @@ use Rattle.rows.specs.Entries.{tableIn}
 use Rattle.rows.specs.Table.{Stored}
 use Rattle.rows.specs.Adding.{stored-length}
 use Rattle.rows.specs.declared.table.Table.{Table}
-use Rattle.writer.specs.Contracts.{Writes, Tabled}
+use Rattle.writer.specs.Contracts.{Writes}
+use Rattle.reach.specs.Tabled.{Tabled}
 use Rattle.writer.specs.declared.Written.{Written}
 use Rattle.writer.specs.declared.Written.the-variants as W
 use Rattle.sets.specs.Spelt.{setIn, rowsIn, Taken, spelt-shape, spelt-length, taken-read, taken-proper}

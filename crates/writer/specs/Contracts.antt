@@ -1,18 +1,14 @@
 -- What the crate's answers mean in the words of the rules, and its two contracts.
-use Prim.Native.Nat.{ℕ, _≤_}
+use Prim.Native.Nat.{ℕ}
 use mathlib.Core.Path.{_≡_, refl, sym, ap, _∙_}
 use mathlib.Core.List.{List}
 use native.Mathlib.Omega.{arith}
 use lib.ListN.{length, take, drop}
 use lib.Seq.{take-append-seam}
 use Rattle.rules.specs.Verdict.{Verdict, granted, refused, _>>=_}
-use Rattle.rules.specs.Edition.{old, mostRows}
-use Rattle.rules.specs.Shape.{Shape, cells, checkShape}
 use Rattle.rules.specs.Operations.{outputAfter}
-use Rattle.laws.specs.After.{Stands, over}
 use Rattle.base.specs.Answers.{refusedBy}
 use Rattle.base.specs.Refusals.{refusalOf, refusal-back}
-use Rattle.rows.specs.Entries.{tableIn}
 use Rattle.writer.specs.declared.Written.{Written}
 use Rattle.writer.specs.declared.Written.the-variants.{Length, Refused}
 
@@ -29,14 +25,6 @@ lengthOf v = v >>= λ bytes. granted (length bytes)
 pub record Writes (v : Verdict (List ℕ)) (r : Written) (before after : List ℕ) : Type 0 where
   pub answer : writtenVerdict r ≡ lengthOf v
   pub output : after ≡ outputAfter v before
-
--- R36: heads that stand over a table of an allowed shape, in lent rows, with a number for each row.
-pub record Tabled (sh : Shape) (heads rows : List ℕ) (used numbers : ℕ) : Type 0 where
-  pub shaped : checkShape old sh ≡ granted tt
-  pub stands : Stands (cells sh) (over (tableIn rows used) heads)
-  pub held : used ≤ length rows
-  pub small : used ≤ mostRows
-  pub room : used ≤ numbers
 
 -- R46, R52: two results that meet the contract are the same, with the same output after.
 answerOf : Verdict ℕ → Written

@@ -25,13 +25,13 @@ use Rattle.laws.specs.Squeeze.{ren, Packed, packed}
 use Rattle.base.specs.declared.refusal.Refusal.the-variants.{NoRoom}
 use Rattle.rows.specs.Entries.{tableIn}
 use Rattle.writer.specs.declared.Written.the-variants.{Length, Refused}
-use Rattle.writer.specs.Contracts.{Writes, Tabled}
+use Rattle.writer.specs.Contracts.{Writes}
+use Rattle.reach.specs.Tabled.{Tabled}
 use Rattle.writer.specs.Put.{putAt, newHeads}
 use Rattle.writer.specs.Kept.{kept, keptAt, kept-one, AllFit}
-use Rattle.writer.specs.Marks.{Reached}
 use Rattle.rows.specs.Adding.{table-length, table-row}
 use Rattle.writer.specs.Write.{set-length, set-put, writes-short, writes-whole}
-use Rattle.writer.specs.Numbers.{Numbering, numbering, numberRows, carried, Numbered, carried-op, carried-none, numbered}
+use Rattle.reach.specs.Numbers.{Numbering, numbering, carried, Numbered, carried-op, carried-none, numbered}
 
 -- Rows renumbered by lists that agree on their operands are the same.
 ren-same : (P : ℕ → Type 0) (m n : List ℕ) (k : ℕ) → ((a : ℕ) → a < k → P a → getD m a 0 ≡ getD n a 0)
@@ -105,16 +105,6 @@ module _ (rows : List ℕ) (used : ℕ) (held : used ≤ length rows) {C : ℕ} 
 
   pub next-small : 2 + C ≤ used → s .next ≤ used
   next-small h = omega (arith, N .next, pack used (omega arith) .few)
-
--- R53: the rows of a table can be numbered; and once they have been marked and numbered, they have the numbers of the rules.
-module _ {sh : Shape} {x rows : List ℕ} {used room : ℕ} (T : Tabled sh x rows used room) {C : ℕ} (c : C ≡ cells sh) where
-  pub table-ready : (n : ℕ) → n ≡ room → (2 + C ≤ used) × (used ≤ n) × (used < 65536)
-  table-ready n e =
-      (omega (arith, T .stands .canonical .long, table-length rows used (T .held)), omega (arith, T .room), omega (arith, T .small))
-
-  pub table-numbered : {marks : List ℕ} {s : Numbering} → Reached (tableIn rows used) x marks → s ≡ numberRows (2 + C) used marks
-      → Numbered (cells sh) (tableIn rows used) x used s
-  table-numbered r q = rw (q, c) (numbered (T .stands .canonical) r used (omega (arith, table-length rows used (T .held))))
 
 -- R36, R59: writing the set, once its rows have been numbered.
 module _ {sh : Shape} {x rows : List ℕ} {used room : ℕ} (T : Tabled sh x rows used room) {C : ℕ} (c : C ≡ cells sh) {n : ℕ}

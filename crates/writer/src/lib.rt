@@ -1,9 +1,6 @@
 // Writes a set file: heads over a table, or the set that changes nothing (R36, R41, R58, R59).
-pub mod number;
 pub mod put;
-pub mod reach;
 
-use crate::number::number_reached;
 use crate::put::put_header;
 use crate::put::put_heads;
 use crate::put::put_own_heads;
@@ -12,6 +9,7 @@ use base::refusal::Refusal;
 use base::shape::Shape;
 use program::Checked;
 use program::header::check_shape;
+use reach::number::number_reached;
 ghost use mathlib.Core.Path.{_≡_};
 ghost use lib.ListN.{length};
 ghost use Rattle.rules.specs.Verdict.{granted};
@@ -22,7 +20,8 @@ ghost use Rattle.rules.specs.Operations.{setOf, unchangingSet, writeInto, write
 ghost use Rattle.laws.specs.After.{over};
 ghost use Rattle.base.specs.Answers.{shapeOf};
 ghost use Rattle.rows.specs.Entries.{tableIn};
-ghost use Rattle.writer.specs.Contracts.{Writes, Tabled};
+ghost use Rattle.writer.specs.Contracts.{Writes};
+ghost use Rattle.reach.specs.Tabled.{Tabled};
 
 // How writing a set ended.
 pub enum Written {

@@ -1,8 +1,8 @@
-use Rattle.writer.specs.Table.{table-ready, table-numbered}
+use Rattle.reach.specs.Numbers.{table-ready, table-numbered}
 use native.Mathlib.Omega.{arith}
 use borrow.Author.Needs.{needs}
-use Rattle.writer.proofs.number.number_reached.Statement.{statement}
-use Rattle.writer.proofs.number.number_reached.Tie as tie
+use Rattle.reach.proofs.number.number_reached.Statement.{statement}
+use Rattle.reach.proofs.number.number_reached.Tie as tie
 
 mark-reached-requires : tie.Need-mark-reached-requires
 mark-reached-requires c κs = search needs

@@ -17,7 +17,11 @@ use Rattle.laws.specs.Rule.{canonical-ready}
 use Rattle.laws.specs.Rows.{length-base}
 use Rattle.laws.specs.After.{snoc-last, snoc-old}
 use Rattle.laws.specs.Squeeze.{ren, carry-op, unchanging-at, packed}
-use Rattle.writer.specs.Marks.{Reached}
+use Rattle.rules.specs.Shape.{Shape, cells}
+use Rattle.rows.specs.Entries.{tableIn}
+use Rattle.rows.specs.Adding.{table-length}
+use Rattle.reach.specs.Tabled.{Tabled}
+use Rattle.reach.specs.Marks.{Reached}
 
 -- The next number, and numbers of which those of the rows so far are new and the others still marks.
 pub record Numbering : Type 0 where
@@ -190,3 +194,13 @@ numbered {C} w r zero h = record {
 }
 numbered {C} {marks = marks} w r (suc k) h =
     numbered-row w k (numberRows (2 + C) k marks) (numbered w r k (omega arith)) (omega arith)
+
+-- R53: the rows of a table can be numbered; and once they have been marked and numbered, they have the numbers of the rules.
+module _ {sh : Shape} {x rows : List ℕ} {used room : ℕ} (T : Tabled sh x rows used room) {C : ℕ} (c : C ≡ cells sh) where
+  pub table-ready : (n : ℕ) → n ≡ room → (2 + C ≤ used) × (used ≤ n) × (used < 65536)
+  table-ready n e =
+      (omega (arith, T .stands .canonical .long, table-length rows used (T .held)), omega (arith, T .room), omega (arith, T .small))
+
+  pub table-numbered : {marks : List ℕ} {s : Numbering} → Reached (tableIn rows used) x marks → s ≡ numberRows (2 + C) used marks
+      → Numbered (cells sh) (tableIn rows used) x used s
+  table-numbered r q = rw (q, c) (numbered (T .stands .canonical) r used (omega (arith, table-length rows used (T .held))))

@@ -1,10 +1,10 @@
 -- `writer::reach::mark_heads`: each turn marks one head, the last first.
 use Prim.Native.Nat.{_-_}
-use Rattle.writer.specs.Marks.{Heading, heads-none, heads-more, heads-all}
+use Rattle.reach.specs.Marks.{Heading, heads-none, heads-more, heads-all}
 use native.Mathlib.Omega.{arith}
 use borrow.Author.Needs.{needs}
-use Rattle.writer.proofs.reach.mark_heads.Statement.{statement}
-use Rattle.writer.proofs.reach.mark_heads.Tie as tie
+use Rattle.reach.proofs.mark.mark_heads.Statement.{statement}
+use Rattle.reach.proofs.mark.mark_heads.Tie as tie
 
 abbrev Inv-loop : tie.InvT-loop
 Inv-loop heads numbers₀ i₀ numbers i = Heading heads numbers₀ numbers i

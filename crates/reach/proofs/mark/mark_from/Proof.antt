@@ -1,7 +1,7 @@
-use Rattle.writer.specs.Marks.{from-none, from-marked}
+use Rattle.reach.specs.Marks.{from-none, from-marked}
 use borrow.Author.Needs.{needs}
-use Rattle.writer.proofs.reach.mark_from.Statement.{statement}
-use Rattle.writer.proofs.reach.mark_from.Tie as tie
+use Rattle.reach.proofs.mark.mark_from.Statement.{statement}
+use Rattle.reach.proofs.mark.mark_from.Tie as tie
 
 mul-if1 : tie.Need-mul-if1
 mul-if1 c = search needs

@@ -11,8 +11,8 @@ ghost use Rattle.rules.specs.Sets.{operands};
 ghost use Rattle.laws.specs.Canonical.{Below};
 ghost use Rattle.base.specs.Answers.{shapeOf};
 ghost use Rattle.rows.specs.Entries.{nodeRow, tableIn};
-ghost use Rattle.writer.specs.Contracts.{Tabled};
-ghost use Rattle.writer.specs.Marks.{markAll, markFrom, OneMarks, Reached};
+ghost use Rattle.reach.specs.Tabled.{Tabled};
+ghost use Rattle.reach.specs.Marks.{markAll, markFrom, OneMarks, Reached};
 
 // Marks a row.
 fn mark(numbers: &mut [u16], r: Row)

@@ -1,10 +1,10 @@
 -- `writer::number::number_rows`: each turn numbers one row.
 use Prim.Native.Nat.{_-_, _≤_}
-use Rattle.writer.specs.Numbers.{numbering, Counting, counting-none, counting-more, counting-all}
+use Rattle.reach.specs.Numbers.{numbering, Counting, counting-none, counting-more, counting-all}
 use native.Mathlib.Omega.{arith}
 use borrow.Author.Needs.{needs}
-use Rattle.writer.proofs.number.number_rows.Statement.{statement}
-use Rattle.writer.proofs.number.number_rows.Tie as tie
+use Rattle.reach.proofs.number.number_rows.Statement.{statement}
+use Rattle.reach.proofs.number.number_rows.Tie as tie
 
 abbrev Inv-loop : tie.InvT-loop
 Inv-loop numbers₀ leaves used next₀ k₀ numbers next k = Counting leaves numbers₀ k (numbering next numbers) × (k ≤ used)

@@ -1,10 +1,10 @@
 use lib.ListN.{length, length-set}
 use mathlib.Core.Path.{ap}
-use Rattle.writer.specs.Marks.{leaf-marks, not-marks, two-marks}
+use Rattle.reach.specs.Marks.{leaf-marks, not-marks, two-marks}
 use native.Mathlib.Omega.{arith}
 use borrow.Author.Needs.{needs}
-use Rattle.writer.proofs.reach.mark_operands.Statement.{statement}
-use Rattle.writer.proofs.reach.mark_operands.Tie as tie
+use Rattle.reach.proofs.mark.mark_operands.Statement.{statement}
+use Rattle.reach.proofs.mark.mark_operands.Tie as tie
 
 enum-told : tie.Need-enum-told
 enum-told c = search needs

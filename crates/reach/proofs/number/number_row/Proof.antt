@@ -1,7 +1,7 @@
-use Rattle.writer.specs.Numbers.{number-leaf, number-none, number-next}
+use Rattle.reach.specs.Numbers.{number-leaf, number-none, number-next}
 use borrow.Author.Needs.{needs}
-use Rattle.writer.proofs.number.number_row.Statement.{statement}
-use Rattle.writer.proofs.number.number_row.Tie as tie
+use Rattle.reach.proofs.number.number_row.Statement.{statement}
+use Rattle.reach.proofs.number.number_row.Tie as tie
 
 cast-numbers : tie.Need-cast-numbers
 cast-numbers c = search needs

@@ -21,7 +21,7 @@ use Rattle.rows.specs.Adding.{table-length, table-row}
 use Rattle.rows.specs.Entries.{nodeRow, rowOfEntry, tableIn}
 use Rattle.rows.specs.declared.node.Node.{Node}
 use Rattle.rows.specs.declared.node.Node.the-variants.{Leaf, Not, Two}
-use Rattle.writer.specs.Contracts.{Tabled}
+use Rattle.reach.specs.Tabled.{Tabled}
 
 -- ---- marking
 

@@ -1,5 +1,5 @@
 // New numbers for the rows that are reached (R36).
-use crate::reach::mark_reached;
+use crate::mark::mark_reached;
 use base::shape::Shape;
 ghost use mathlib.Core.Path.{_≡_};
 ghost use Prim.Native.Nat.{_<_, _≤_};
@@ -7,8 +7,8 @@ ghost use lib.ListN.{length};
 ghost use Rattle.rules.specs.Shape.{cells};
 ghost use Rattle.base.specs.Answers.{shapeOf};
 ghost use Rattle.rows.specs.Entries.{tableIn};
-ghost use Rattle.writer.specs.Contracts.{Tabled};
-ghost use Rattle.writer.specs.Numbers.{numbering, numberRow, numberRows, Numbered};
+ghost use Rattle.reach.specs.Tabled.{Tabled};
+ghost use Rattle.reach.specs.Numbers.{numbering, numberRow, numberRows, Numbered};
 
 // R36: the new number of row k. A constant or cell keeps its own, a marked operation row gets the next one, any other stays 0. Answers the next number.
 fn number_row(numbers: &mut [u16], leaves: usize, k: usize, next: usize) -> usize

@@ -3,11 +3,11 @@ use Rattle.rows.specs.Entries.{tableIn}
 use lib.ListN.{length}
 use mathlib.Core.Path.{_≡_, refl}
 use Prim.Native.Nat.{_≤_}
-use Rattle.writer.specs.Marks.{Marking, heads-fit, walk-heads, walk-fits, walk-more, walk-done}
+use Rattle.reach.specs.Marks.{Marking, heads-fit, walk-heads, walk-fits, walk-more, walk-done}
 use native.Mathlib.Omega.{arith}
 use borrow.Author.Needs.{needs}
-use Rattle.writer.proofs.reach.mark_reached.Statement.{statement}
-use Rattle.writer.proofs.reach.mark_reached.Tie as tie
+use Rattle.reach.proofs.mark.mark_reached.Statement.{statement}
+use Rattle.reach.proofs.mark.mark_reached.Tie as tie
 
 abbrev Inv-loop : tie.InvT-loop
 Inv-loop heads rows used numbers₀ leaves k₀ numbers k =
