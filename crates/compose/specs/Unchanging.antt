@@ -1,6 +1,6 @@
 -- The laws of the unchanging set, of what the code leaves: composed with it, on either side, a file comes out as it went in.
 use Prim.Native.Nat.{ℕ}
-use mathlib.Core.Path.{_≡_, refl, sym, ap, _∙_}
+use mathlib.Core.Path.{_≡_}
 use mathlib.Core.List.{List}
 use lib.ListN.{length, take}
 use lib.Dec.{ltb}

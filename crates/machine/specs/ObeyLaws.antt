@@ -15,7 +15,7 @@ use Rattle.rules.specs.Shape.{vars, flag}
 use Rattle.rules.specs.Instr.{Plain, INIT, plain, END}
 use Rattle.rules.specs.ProgramFile.{entryAt, bodyAt}
 use Rattle.rules.specs.Machine.{due, obey, perform}
-use Rattle.rules.specs.Operations.{bit, storageBytes}
+use Rattle.rules.specs.Operations.{storageBytes}
 use Rattle.laws.specs.Canonical.{WellFormed}
 use Rattle.laws.specs.Shape.{Limits, shape-limits}
 use Rattle.laws.specs.ProgramFile.{read-wellformed, read-shape}

@@ -1,16 +1,16 @@
 -- What the check of a storage answers, in the words of the rules, and what its answers tell.
-use Prim.Native.Nat.{ℕ, zero, suc, _+_, _≤_, _<_}
-use mathlib.Core.Path.{_≡_, ap, sym, _∙_}
-use mathlib.Core.Bool.{Bool, true, false, not}
+use Prim.Native.Nat.{ℕ, _+_, _≤_, _<_}
+use mathlib.Core.Path.{_≡_, sym, _∙_}
+use mathlib.Core.Bool.{Bool, false, not}
 use mathlib.Core.List.{List}
 use native.Mathlib.Omega.{arith}
-use native.Mathlib.Nat.{add-zero, zero-add}
+use native.Mathlib.Nat.{zero-add}
 use native.Mathlib.Decide.{decLt}
 use lib.ListN.{length, getD, List·getD-eq-default}
 use lib.Dec.{ltb, eqb}
 use borrow.Author.Tests.{ltb-false, eqb-true, not-false, lt-ltb, le-ltb, eq-eqb, ne-eqb}
 use Rattle.rules.specs.Verdict.{Verdict, granted, refused, _>>=_}
-use Rattle.rules.specs.Lists.{orElse, seek}
+use Rattle.rules.specs.Lists.{seek}
 use Rattle.laws.specs.Lists.{search-none, none-search, seek-first}
 use Rattle.laws.specs.Verdict.{bind-granted, check-granted}
 use Rattle.rules.specs.Operations.{checkStorage}
