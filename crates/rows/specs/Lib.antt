@@ -3,3 +3,4 @@ pub mod Entries
 pub mod Plans
 pub mod Table
 pub mod Adding
+pub mod Making
