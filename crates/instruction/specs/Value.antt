@@ -5,22 +5,15 @@ use mathlib.Core.Bool.{cond}
 use mathlib.Core.List.{List}
 use lib.ListN.{length}
 use lib.Dec.{eqb}
-use Rattle.rules.specs.Verdict.{granted}
-use Rattle.rules.specs.Expr.{Exp, Read, eval, readExpr}
+use Rattle.rules.specs.Expr.{Exp, Read, eval}
 use Rattle.rules.specs.Operations.{bit}
 use Rattle.storage.specs.Cells.{bitsOf, Bits}
+use Rattle.program.specs.Reading.{Reads, Legible}
 use Rattle.instruction.specs.declared.eval.Valued.{Valued}
 
--- The expression x stands at p and ends by `stop`.
-pub record Reads (file : List ℕ) (v stop p : ℕ) (x : Read Exp) : Type 0 where
-  pub fuel : ℕ
-  pub is : readExpr fuel file v stop p ≡ granted x
-
--- An expression stands at p, over at most 200 variables, which the storage has; and the storage holds bits.
+-- An expression stands at p, over variables that the storage has; and the storage holds bits.
 pub record Readable (file s : List ℕ) (v stop p : ℕ) : Type 0 where
-  pub what : Read Exp
-  pub reads : Reads file v stop p what
-  pub most : v ≤ 200
+  pub legible : Legible file v stop p
   pub enough : v ≤ length s
   pub holds : Bits s
 

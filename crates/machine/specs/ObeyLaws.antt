@@ -11,15 +11,11 @@ use lib.Dec.{eqb}
 use borrow.Author.Tests.{eq-eqb, ne-eqb}
 use Rattle.rules.specs.Lists.{numberAt}
 use Rattle.rules.specs.Edition.{old}
-use Rattle.rules.specs.Shape.{vars, flag}
+use Rattle.rules.specs.Shape.{vars, flag, cells}
 use Rattle.rules.specs.Instr.{Plain, INIT, plain, END}
-use Rattle.rules.specs.ProgramFile.{entryAt, bodyAt}
+use Rattle.rules.specs.ProgramFile.{bodyAt}
 use Rattle.rules.specs.Machine.{due, obey, perform}
 use Rattle.rules.specs.Operations.{storageBytes}
-use Rattle.laws.specs.Canonical.{WellFormed}
-use Rattle.laws.specs.Shape.{Limits, shape-limits}
-use Rattle.laws.specs.ProgramFile.{read-wellformed, read-shape}
-use Rattle.laws.specs.Decode.{Decodes, read-decodes}
 use Rattle.base.specs.declared.shape.Shape.{Shape}
 use Rattle.base.specs.declared.kinds.Instr.{Instr}
 use Rattle.base.specs.Answers.{shapeOf}
@@ -30,47 +26,29 @@ use Rattle.instruction.specs.declared.eval.Valued.{Valued}
 use Rattle.program.specs.Codes.{aloneOf, onExpr, onVariable, onLabel}
 use Rattle.instruction.specs.Perform.{Fitting, onValue}
 use Rattle.instruction.specs.PerformLaws.{value-stored}
-use Rattle.program.specs.Codes.{Coded, coded}
-use Rattle.instruction.specs.Value.{Reads, Readable, Values}
-use Rattle.machine.specs.Run.{programIn, instrAt, Performed, Runnable, Obeys}
+use Rattle.program.specs.Codes.{Coded}
+use Rattle.program.specs.Standing.{programIn, instrAt, Standing, formed, deep, most-vars, most-cells, tells, expression, expression-there, with-variable, goes, later}
+use Rattle.instruction.specs.Value.{Readable, Values}
+use Rattle.machine.specs.Run.{Performed, Runnable, Obeys}
 
 module _ (file : List ℕ) (sh : Shape) (n : ℕ) (s : List ℕ) (i : ℕ) (r : Runnable file sh n s i) where
-  decodes : Decodes old file (programIn file)
-  decodes = read-decodes old file (programIn file) (r .accepted)
-
-  formed : WellFormed (programIn file)
-  formed = read-wellformed old file (programIn file) (r .accepted)
-
-  limits : Limits old (programIn file .shape)
-  limits = shape-limits old (programIn file .shape) (read-shape old file (programIn file) (r .accepted))
-
-  -- The contents are all there.
-  pub contents-there : entryAt old n ≤ length file
-  contents-there = omega (arith, decodes .contents, r .count)
+  abbrev place : Standing file sh n i
+  place = r .standing
 
   pub fitting : Fitting sh s
   fitting = record {
-    storage = rw (r .shaped) (r .stored);
-    deep = omega (arith, limits .deep, ap (λ t. t .depth) (r .shaped));
-    most = omega (arith, limits .most, ap vars (r .shaped));
+    storage = rw (place .shaped) (r .stored);
+    deep = deep file sh n i place;
+    most = most-vars file sh n i place;
   }
 
   -- R1, R2: there are at most 217 cells.
   pub cells-most : length s ≤ 217
-  cells-most = omega (arith, r .stored .size, limits .shallow, limits .most)
-
-  module _ (at : ℕ) (here : at ≡ bodyAt old file n i) where
-    pub inside : at < length file
-    inside = omega (arith, here, ap (λ m. bodyAt old file m i) (r .count), decodes .stands i (omega (arith, r .low, r .count)) .inside)
-
-    pub code : Coded old file (programIn file .shape) n i at (getD file at 0) (instrAt file i)
-    code =
-        coded old file (programIn file .shape) n i at (getD file at 0) (instrAt file i)
-        (rw (here, r .count) (decodes .stands i (omega (arith, r .low, r .count)) .says))
+  cells-most = omega (arith, r .stored .size, most-cells file sh n i place, ap cells (place .shaped))
 
   -- R16: the bytes of the table are those of the storage after an instruction.
   bytes-after : (p : Plain) → storageBytes (perform (programIn file .shape) p (bitsOf s)) ≡ stored (programIn file .shape) s p
-  bytes-after p = perform-stored (programIn file .shape) s (r .stored) (omega (arith, limits .deep)) p
+  bytes-after p = perform-stored (programIn file .shape) s (r .stored) (omega (arith, formed file sh n i place .deep)) p
 
   bits-after : (s′ : List ℕ) (p : Plain) → s′ ≡ stored (programIn file .shape) s p
       → perform (programIn file .shape) p (bitsOf s) ≡ bitsOf s′
@@ -82,7 +60,7 @@ module _ (file : List ℕ) (sh : Shape) (n : ℕ) (s : List ℕ) (i : ℕ) (r : 
   -- R22: after a plain instruction the next one is due.
   pub obeys-plain : (s′ : List ℕ) → Performed file s i s′ → (j : Instr) → j .0 ≡ i + 1 → Obeys file s i (On j) s′
   obeys-plain s′ p j e =
-      let fine = rw (p .is) at (formed .fine i (omega (arith, r .low, r .count))) in
+      let fine = rw (p .is) at (formed file sh n i place .fine i (omega (arith, place .low, place .count))) in
       let next : j .0 ≡ suc i = omega arith in
       record {
         leads = (omega arith, omega (arith, fine .1), λ q. rw (p .is, bits-after s′ (p .what) (p .gives), next));
@@ -91,98 +69,70 @@ module _ (file : List ℕ) (sh : Shape) (n : ℕ) (s : List ℕ) (i : ℕ) (r : 
 
   module _ (at : ℕ) (here : at ≡ bodyAt old file n i) (c : ℕ) (is : c ≡ getD file at 0) where
     -- What the code read there tells.
-    pub tells : Coded old file (programIn file .shape) n i at c (instrAt file i)
-    tells = rw is (code at here)
+    abbrev told : Coded old file (programIn file .shape) n i at c (instrAt file i)
+    told = tells file sh n i place at here c is
 
     -- R23: END.
     pub obeys-end : c ≡ 10 → (f : ℕ) → f ≡ flag (shapeOf sh) → (s′ : List ℕ) → s′ ≡ resetFrom f s → Obeys file s i End s′
     unfolding stored
     obeys-end h f e s′ g =
-        let x : instrAt file i ≡ END = tells .lone (omega arith) .2 h in
-        let q : f ≡ flag (programIn file .shape) = e ∙ ap flag (r .shaped) in
+        let x : instrAt file i ≡ END = told .lone (omega arith) .2 h in
+        let q : f ≡ flag (programIn file .shape) = e ∙ ap flag (place .shaped) in
         let t : s′ ≡ stored (programIn file .shape) s INIT = g ∙ ap (λ k. resetFrom k s) q in
         record { leads = λ l. rw (x, bits-after s′ INIT t); stored = storage-after s′ INIT t }
 
     -- R17, R19: an instruction of a code alone.
     pub by-alone : c < 10 → (s′ : List ℕ) → s′ ≡ stored (shapeOf sh) s (aloneOf c) → Performed file s i s′
-    by-alone h s′ g = record { what = aloneOf c; is = tells .lone (omega arith) .1 h; gives = g ∙ ap (λ t. stored t s (aloneOf c)) (r .shaped) }
+    by-alone h s′ g = record { what = aloneOf c; is = told .lone (omega arith) .1 h; gives = g ∙ ap (λ t. stored t s (aloneOf c)) (place .shaped) }
 
-    -- R11: the expression after the code stands there, and can be worked out.
-    reads : (h : 10 < c) (k : c < 32) (v : ℕ) → v ≡ vars (shapeOf sh) → Reads file v (at + 65) (at + 1) (tells .expr h k .2)
-    reads h k v e =
-        let q : v ≡ vars (programIn file .shape) = e ∙ ap vars (r .shaped) in
-        let a : at + 65 ≡ suc at + 64 = omega arith in
-        let b : at + 1 ≡ suc at = omega arith in
-        record { fuel = 64; is = rw (q, a, b) (tells .expr h k .3) }
-
+    -- R11: the expression after the code can be worked out.
     pub readable : 10 < c → c < 32 → (v : ℕ) → v ≡ vars (shapeOf sh) → Readable file s v (at + 65) (at + 1)
     readable h k v e = record {
-      what = tells .expr h k .2;
-      reads = reads h k v e;
-      most = omega (arith, fitting .most);
-      enough = omega (arith, r .stored .size, ap vars (r .shaped));
+      legible = expression-there file sh n i place at here c is h k v e;
+      enough = omega (arith, r .stored .size, ap vars (place .shaped));
       holds = r .stored .bits;
     }
-
-    pub value-codes : 10 < c → c < 32 → (16 ≤ c) × (c < 20)
-    value-codes h k = (tells .expr h k .0, tells .expr h k .1)
 
     -- R17, R19: an instruction with an expression.
     pub by-value : (h : 10 < c) (k : c < 32) (v : ℕ) → v ≡ vars (shapeOf sh) → (y : Valued) → Values file s v (at + 65) (at + 1) y
         → (s′ : List ℕ) → s′ ≡ onValue (shapeOf sh) s c (y .bit) → Performed file s i s′
     by-value h k v e y w s′ g =
-        let x = tells .expr h k in
-        let b : y .bit ≡ byteOf s (x .2 .got) = w .value (x .2) (reads h k v e) in
+        let x = told .expr h k in
+        let b : y .bit ≡ byteOf s (x .2 .got) = w .value (x .2) (expression file sh n i place at here c is h k v e) in
         let t = value-stored (shapeOf sh) s c (x .2 .got) (y .bit) (x .0) (x .1) b in
         record {
           what = onExpr c (x .2 .got);
           is = x .4;
-          gives = g ∙ t ∙ ap (λ z. stored z s (onExpr c (x .2 .got))) (r .shaped);
+          gives = g ∙ t ∙ ap (λ z. stored z s (onExpr c (x .2 .got))) (place .shaped);
         }
-
-    -- R12: the variable after the code is there, and below V.
-    pub variable-there : 32 ≤ c → c < 48 → at + 1 < length file
-    variable-there h k = omega (arith, tells .var h k .1)
-
-    pub variable-codes : 32 ≤ c → c < 48 → (b : ℕ) → b ≡ getD file (at + 1) 0 → (32 ≤ c) × (c < 37) × (b < vars (shapeOf sh))
-    variable-codes h k b e =
-        let q : b ≡ getD file (suc at) 0 = e ∙ ap (λ m. getD file m 0) (omega arith) in
-        (h, tells .var h k .0, omega (arith, tells .var h k .2, ap vars (r .shaped)))
 
     -- R18: an instruction with a variable.
     pub by-variable : (h : 32 ≤ c) (k : c < 48) (b : ℕ) → b ≡ getD file (at + 1) 0
         → (s′ : List ℕ) → s′ ≡ stored (shapeOf sh) s (onVariable c b) → Performed file s i s′
-    by-variable h k b e s′ g =
-        let q : b ≡ getD file (suc at) 0 = e ∙ ap (λ m. getD file m 0) (omega arith) in
-        record {
-          what = onVariable c b;
-          is = tells .var h k .3 ∙ ap (λ m. plain (onVariable c m)) (sym q);
-          gives = g ∙ ap (λ z. stored z s (onVariable c b)) (r .shaped);
-        }
-
-    -- R13: the label after the code is whole.
-    pub label-there : 48 ≤ c → at + 1 + 2 ≤ length file
-    label-there h = omega (arith, tells .label h .1)
+    by-variable h k b e s′ g = record {
+      what = onVariable c b;
+      is = with-variable file sh n i place at here c is h k b e;
+      gives = g ∙ ap (λ z. stored z s (onVariable c b)) (place .shaped);
+    }
 
     module _ (h : 48 ≤ c) (l : Instr) (to : l .0 ≡ numberAt 2 file (at + 1)) where
-      label : l .0 ≡ numberAt 2 file (suc at)
-      label = to ∙ ap (numberAt 2 file) (omega arith)
+      gone : instrAt file i ≡ onLabel c (l .0)
+      gone = goes file sh n i place at here c is h l to
 
-      goes : instrAt file i ≡ onLabel c (l .0)
-      goes = tells .label h .4 ∙ ap (onLabel c) (sym label)
-
-      later : (i < l .0) × (l .0 < length (programIn file .instrs))
-      later = (omega (arith, tells .label h .2, label), omega (arith, tells .label h .3, label, r .count))
+      on : (i < l .0) × (l .0 < length (programIn file .instrs))
+      on =
+          let q = later file sh n i place at here c is h l to in
+          (q .0, omega (arith, q .1, place .count))
 
       -- R22: a jump, where the machine goes to the label.
       jumps : ((q : List ℕ) → obey (programIn file .shape) (onLabel c (l .0)) i (bitsOf s) q ≡ due (l .0) (bitsOf s) q)
           → Obeys file s i (On l) s
-      jumps g = record { leads = (later .0, later .1, λ q. rw goes (g q)); stored = r .stored }
+      jumps g = record { leads = (on .0, on .1, λ q. rw gone (g q)); stored = r .stored }
 
       -- R23: a call.
       calls : ((q : List ℕ) → obey (programIn file .shape) (onLabel c (l .0)) i (bitsOf s) q ≡ due (l .0) (bitsOf s) (suc i ∷ q))
           → Obeys file s i (Call l) s
-      calls g = record { leads = (later .0, later .1, λ q. rw goes (g q)); stored = r .stored }
+      calls g = record { leads = (on .0, on .1, λ q. rw gone (g q)); stored = r .stored }
 
       pub obeys-jp : c ≡ 48 → Obeys file s i (On l) s
       obeys-jp e = jumps (λ q. rw e)
@@ -193,7 +143,7 @@ module _ (file : List ℕ) (sh : Shape) (n : ℕ) (s : List ℕ) (i : ℕ) (r : 
       module _ (f v : ℕ) (flagged : f ≡ flag (shapeOf sh)) (held : v ≡ getD s f 0) where
         bit-held : getD (bitsOf s) (flag (programIn file .shape)) false ≡ eqb 1 v
         bit-held =
-            let q : f ≡ flag (programIn file .shape) = flagged ∙ ap flag (r .shaped) in
+            let q : f ≡ flag (programIn file .shape) = flagged ∙ ap flag (place .shaped) in
             rw (← q, held) (getD-bits s f)
 
         up : (v ≡ 0 → ⊥) → getD (bitsOf s) (flag (programIn file .shape)) false ≡ true
@@ -204,7 +154,7 @@ module _ (file : List ℕ) (sh : Shape) (n : ℕ) (s : List ℕ) (i : ℕ) (r : 
 
         pub obeys-jsc : (c ≡ 48 → ⊥) → (c ≡ 49 → ⊥) → (c ≡ 50 → ⊥) → (v ≡ 0 → ⊥) → Obeys file s i (Call l) s
         obeys-jsc a b d z =
-            let e : c ≡ 51 = omega (arith, tells .label h .0) in
+            let e : c ≡ 51 = omega (arith, told .label h .0) in
             calls (λ q. rw (e, up z))
 
         pub obeys-stay : (c ≡ 48 → ⊥) → (c ≡ 50 → ⊥) → v ≡ 0 → (j : Instr) → j .0 ≡ i + 1 → Obeys file s i (On j) s
@@ -213,7 +163,7 @@ module _ (file : List ℕ) (sh : Shape) (n : ℕ) (s : List ℕ) (i : ℕ) (r : 
             let next : j .0 ≡ suc i = omega arith in
             let two : (c ≡ 49) ⊎ (c ≡ 51) = elim (decLt c 50) [
               | yes p ↦ inl (omega arith)
-              | no p ↦ inr (omega (arith, tells .label h .0))
+              | no p ↦ inr (omega (arith, told .label h .0))
             ] in
             let stays : (q : List ℕ) → obey (programIn file .shape) (onLabel c (l .0)) i (bitsOf s) q ≡ due (suc i) (bitsOf s) q
             = λ q. elim two [
@@ -221,6 +171,6 @@ module _ (file : List ℕ) (sh : Shape) (n : ℕ) (s : List ℕ) (i : ℕ) (r : 
               | inr p ↦ rw (p, down)
             ] in
             record {
-              leads = (omega arith, omega (arith, later .0, later .1), λ q. rw (goes, next) (stays q));
+              leads = (omega arith, omega (arith, on .0, on .1), λ q. rw (gone, next) (stays q));
               stored = r .stored;
             }

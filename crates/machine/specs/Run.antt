@@ -1,40 +1,23 @@
 -- What a run of the machine's steps in code asks for and gives.
 use Prim.Native.Nat.{ℕ, suc, _+_, _-_, _≤_, _<_}
 use mathlib.Core.Path.{_≡_}
-use mathlib.Core.List.{List, [], _∷_}
-use lib.ListN.{length, getD}
-use Rattle.rules.specs.Verdict.{Verdict, granted, refused}
-use Rattle.rules.specs.Edition.{old}
-use Rattle.rules.specs.Instr.{Plain, Instr, plain, END}
-use Rattle.rules.specs.ProgramFile.{Program, readProgram}
+use mathlib.Core.List.{List, _∷_}
+use lib.ListN.{length}
+use Rattle.rules.specs.Verdict.{refused}
+use Rattle.rules.specs.Instr.{Plain, plain}
+use Rattle.rules.specs.ProgramFile.{Program}
 use Rattle.rules.specs.Machine.{due, back, step, scanFrom}
 use Rattle.base.specs.declared.shape.Shape.{Shape}
-use Rattle.base.specs.Answers.{shapeOf}
 use Rattle.machine.specs.declared.obey.Move.{Move}
 use Rattle.machine.specs.declared.obey.Move.the-variants.{On, Call, End}
 use Rattle.machine.specs.declared.run.Ran.{Ran}
 use Rattle.machine.specs.declared.run.Ran.the-variants.{Back, Spent}
+use Rattle.program.specs.Standing.{programIn, instrAt, Standing}
 use Rattle.storage.specs.Cells.{bitsOf, stored, Storage}
 
--- The program of an accepted file.
-abbrev pub grantedProgram : Verdict Program → Program
-grantedProgram (granted P) = P
-grantedProgram (refused n p) = record { shape = record { depth = 0; inputs = 0; outputs = 0; memory = 0 }; instrs = [] }
-
-unfoldable pub programIn : List ℕ → Program
-programIn file = grantedProgram (readProgram old file)
-
--- Its instruction i.
-abbrev pub instrAt : List ℕ → ℕ → Instr
-instrAt file i = getD (programIn file .instrs) i END
-
--- The file is accepted, of the shape and with n instructions, of which i is one; the storage fits.
+-- Instruction i of n stands in an accepted file of the shape, and the storage fits.
 pub record Runnable (file : List ℕ) (sh : Shape) (n : ℕ) (s : List ℕ) (i : ℕ) : Type 0 where
-  pub accepted : readProgram old file ≡ granted (programIn file)
-  pub shaped : shapeOf sh ≡ programIn file .shape
-  pub count : n ≡ length (programIn file .instrs)
-  pub most : n ≤ 512
-  pub low : i < n
+  pub standing : Standing file sh n i
   pub stored : Storage (programIn file .shape) s
 
 -- R16 to R19: instruction i is a plain one, which leaves s′.

@@ -14,7 +14,8 @@ use Rattle.machine.specs.declared.obey.Move.the-variants.{On, Call, End}
 use Rattle.machine.specs.declared.run.Ran.{Ran}
 use Rattle.machine.specs.declared.run.Ran.the-variants.{Back, Spent}
 use Rattle.storage.specs.Cells.{bitsOf, Storage}
-use Rattle.machine.specs.Run.{programIn, Runnable, Leads, Obeys, Comes, Ends}
+use Rattle.program.specs.Standing.{programIn, standing-at}
+use Rattle.machine.specs.Run.{Runnable, Leads, Obeys, Comes, Ends}
 
 -- With budget left, a scan takes one step.
 one-step : (P : Program) (left n i : ℕ) (b : List Bool) (q : List ℕ) → (left ≡ 0 → ⊥)
@@ -83,14 +84,7 @@ scan-back P s s′ budget m c =
 module _ (file : List ℕ) (sh : Shape) (n : ℕ) (s : List ℕ) (i : ℕ) (r : Runnable file sh n s i) where
   -- A run may go on at a later instruction.
   pub runnable-at : (s₁ : List ℕ) → Storage (programIn file .shape) s₁ → (j : ℕ) → j < n → Runnable file sh n s₁ j
-  runnable-at s₁ a j h = record {
-    accepted = r .accepted;
-    shaped = r .shaped;
-    count = r .count;
-    most = r .most;
-    low = h;
-    stored = a;
-  }
+  runnable-at s₁ a j h = record { standing = standing-at file sh n i (r .standing) j h; stored = a }
 
   -- A run may be of a copy.
   pub runnable-copy : (s₁ : List ℕ) → s₁ ≡ s → Runnable file sh n s₁ i

@@ -11,8 +11,7 @@ use Rattle.rules.specs.Lists.{numberAt}
 use Rattle.rules.specs.ProgramFile.{Program, readProgram}
 use Rattle.rules.specs.Machine as M
 use Rattle.rules.specs.Operations.{checkStorage, scan}
-use Rattle.laws.specs.ProgramFile.{read-wellformed}
-use Rattle.laws.specs.Decode.{Decodes, read-decodes}
+use Rattle.laws.specs.Decode.{read-decodes}
 use Rattle.base.specs.declared.shape.Shape.{Shape}
 use Rattle.base.specs.declared.kinds.Instr.{Instr}
 use Rattle.base.specs.declared.refusal.Refusal.{Refusal}
@@ -20,13 +19,14 @@ use Rattle.base.specs.declared.refusal.Refusal.the-variants.{BudgetSpent}
 use Rattle.base.specs.Answers.{shapeOf, refusedBy, numberOf, placeOf}
 use Rattle.base.specs.Refusals.{refusalOf, refusal-back}
 use Rattle.program.specs.Contracts.{checkOf}
+use Rattle.program.specs.Standing.{programIn, standing}
 use Rattle.storage.specs.Cells.{bitsOf}
 use Rattle.storage.specs.Checked.{checkCells, cells-passed, cells-refused, all-cells}
 use Rattle.storage.specs.Stores.{bytes-back}
 use Rattle.machine.specs.declared.Scanned.{Scanned}
 use Rattle.machine.specs.declared.Scanned.the-variants.{Stopped, Refused}
 use Rattle.machine.specs.declared.run.Ran.the-variants.{Back, Spent}
-use Rattle.machine.specs.Run.{grantedProgram, programIn, Runnable, Ends}
+use Rattle.machine.specs.Run.{Runnable, Ends}
 use Rattle.machine.specs.RunLaws.{scan-back}
 use Rattle.machine.specs.Scan.{scannedVerdict, Scans}
 
@@ -47,27 +47,10 @@ scan-unread file s budget x e = refused-scan file s budget x (go (readProgram ol
         absurd (omega arith)
     go (refused n p) q = cc
 
--- An accepted file has a program.
-pub accepted-program : (file : List ℕ) → granted tt ≡ checkOf file → readProgram old file ≡ granted (programIn file)
-unfolding programIn
-accepted-program file e = go (readProgram old file) (sym e)
-  where
-    go : (v : Verdict Program) → (v >>= λ P. granted (tt {0})) ≡ granted tt → v ≡ granted (grantedProgram v)
-    go (granted P) q = refl
-    go (refused n p) q =
-        let z : _≡_ {A = ℕ} 0 1 = cc in
-        absurd (omega arith)
-
 module _ (file : List ℕ) (a : readProgram old file ≡ granted (programIn file)) where
-  decodes : Decodes old file (programIn file)
-  decodes = read-decodes old file (programIn file) a
-
-  pub header-there : 7 ≤ length file
-  header-there = omega (arith, decodes .contents)
-
   module _ (sh : Shape) (e : shapeOf sh ≡ shapeAt old file) (C : ℕ) (c : C ≡ cells (shapeOf sh)) (s : List ℕ) where
     shaped : shapeOf sh ≡ programIn file .shape
-    shaped = e ∙ decodes .shaped
+    shaped = e ∙ read-decodes old file (programIn file) a .shaped
 
     -- R51: then the storage.
     pub scan-unfit : (budget : ℕ) (x : Refusal) → refusedBy x ≡ checkCells C s → Scans file s budget (Refused x) s
@@ -79,15 +62,9 @@ module _ (file : List ℕ) (a : readProgram old file ≡ granted (programIn file
 
     pub runnable : (n : ℕ) → n ≡ numberAt 2 file 5 → granted tt ≡ checkCells C s → Runnable file sh n s 0
     runnable n m r =
-        let w = read-wellformed old file (programIn file) a in
-        let k : n ≡ length (programIn file .instrs) = m ∙ decodes .counted in
         let p = cells-passed C s (sym r) in
         record {
-          accepted = a;
-          shaped = shaped;
-          count = k;
-          most = omega (arith, w .most);
-          low = omega (arith, w .some);
+          standing = standing file a sh e n m;
           stored = record { size = p .size ∙ c ∙ ap cells shaped; bits = p .bits };
         }
 
@@ -97,7 +74,7 @@ module _ (file : List ℕ) (sh : Shape) (n : ℕ) (s : List ℕ) (r : Runnable f
   unfolding scan
   scan-is budget =
       let w = all-cells (cells (programIn file .shape)) s (r .stored .size) (λ c _. r .stored .bits c) in
-      rw (r .accepted, cells-passed (cells (programIn file .shape)) s w .is)
+      rw (r .standing .accepted, cells-passed (cells (programIn file .shape)) s w .is)
 
   module _ (budget : ℕ) (copy t : List ℕ) (same : copy ≡ s) where
     pub scan-spent : (i : Instr) → Ends file copy 0 budget (Spent i) t → Scans file s budget (Refused (BudgetSpent i)) s

@@ -19,7 +19,8 @@ ghost use lib.ListN.{length};
 ghost use Rattle.rules.specs.Verdict.{granted};
 ghost use Rattle.rules.specs.Edition.{old};
 ghost use Rattle.rules.specs.ProgramFile.{readProgram};
-ghost use Rattle.machine.specs.Run.{programIn, Runnable};
+ghost use Rattle.program.specs.Standing.{programIn};
+ghost use Rattle.machine.specs.Run.{Runnable};
 ghost use Rattle.machine.specs.Scan.{Scans};
 
 // R25: how a scan ended.

@@ -9,3 +9,5 @@ pub mod Codes
 pub mod Last
 pub mod Rest
 pub mod Check
+pub mod Reading
+pub mod Standing

@@ -1,6 +1,7 @@
 use Rattle.program.specs.declared.Checked.the-variants.{Granted, Refused}
 use mathlib.Core.Path.{_≡_}
-use Rattle.machine.specs.ScanLaws.{accepted-program, scan-unread}
+use Rattle.program.specs.Standing.{accepted-program}
+use Rattle.machine.specs.ScanLaws.{scan-unread}
 use borrow.Author.Needs.{needs}
 use Rattle.machine.proofs.scan.Statement.{statement}
 use Rattle.machine.proofs.scan.Tie as tie

@@ -1,6 +1,7 @@
 use Rattle.storage.specs.declared.Cells.the-variants.{Good, Refused}
 use mathlib.Core.Path.{_≡_}
-use Rattle.machine.specs.ScanLaws.{header-there, runnable, scan-unfit}
+use Rattle.program.specs.Standing.{header-there}
+use Rattle.machine.specs.ScanLaws.{runnable, scan-unfit}
 use native.Mathlib.Omega.{arith}
 use borrow.Author.Needs.{needs}
 use Rattle.machine.proofs.scan_accepted.Statement.{statement}

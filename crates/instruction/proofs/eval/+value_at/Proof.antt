@@ -1,5 +1,6 @@
 use native.Mathlib.Omega.{arith}
-use Rattle.instruction.specs.ValueLaws.{read-before, read-inside, read-variable, value-variable, value-constant, read-operand, value-not, read-second, second-later, value-two}
+use Rattle.program.specs.Reading.{read-before, read-inside, read-variable, second-later}
+use Rattle.instruction.specs.ValueLaws.{value-variable, value-constant, operand-readable, value-not, second-readable, value-two}
 use borrow.Author.Needs.{needs}
 use Prim.Native.Nat.{ℕ, _-_, _<_}
 use lib.ListN.{getD}
@@ -27,7 +28,7 @@ value-at-shared-slice-read-b : (t : ℕ)
     → value-at-lts.Need-shared-slice-read-b
     (wide-reads.Asked, wide-reads.Learnt, value-at-below t, value-at.Post, join-reads.Asked, join-reads.Learnt)
     (value-at-at t) value-at.Post
-value-at-shared-slice-read-b t c = read-inside _ _ _ _ _ (c .before .before .before .pre .1)
+value-at-shared-slice-read-b t c = read-inside _ _ _ _ (c .before .before .before .pre .1 .legible)
 
 value-at-wide-requires : (t : ℕ)
     → value-at-lts.Need-wide-requires
@@ -41,14 +42,14 @@ value-at-shared-slice-read-t14 : (t : ℕ)
     (value-at-at t) value-at.Post
 value-at-shared-slice-read-t14 t c =
     let c6 = c .before .before .before .before .before .before in
-    (let h = read-variable _ _ _ _ _ (c6 .pre .1) (c .before .before .if1 .taken) in omega
+    (let h = read-variable _ _ _ _ (c6 .pre .1 .legible) (c .before .before .if1 .taken) in omega
     (arith, h, (c6 .pre .1) .enough, c .before .wide .ensures .0))
 
 value-at-add-t15 : (t : ℕ)
     → value-at-lts.Need-add-t15
     (wide-reads.Asked, wide-reads.Learnt, value-at-below t, value-at.Post, join-reads.Asked, join-reads.Learnt)
     (value-at-at t) value-at.Post
-value-at-add-t15 t c = omega (arith, read-inside _ _ _ _ _ (c .before .before .before .before .before .before .pre .1))
+value-at-add-t15 t c = omega (arith, read-inside _ _ _ _ (c .before .before .before .before .before .before .pre .1 .legible))
 
 value-at-returns : (t : ℕ)
     → value-at-lts.Need-returns
@@ -62,7 +63,7 @@ value-at-add-t17 : (t : ℕ)
     → value-at-lts.Need-add-t17
     (wide-reads.Asked, wide-reads.Learnt, value-at-below t, value-at.Post, join-reads.Asked, join-reads.Learnt)
     (value-at-at t) value-at.Post
-value-at-add-t17 t c = omega (arith, read-inside _ _ _ _ _ (c .before .before .before .before .before .pre .1))
+value-at-add-t17 t c = omega (arith, read-inside _ _ _ _ (c .before .before .before .before .before .pre .1 .legible))
 
 value-at-returns-2 : (t : ℕ)
     → value-at-lts.Need-returns-2
@@ -76,7 +77,7 @@ value-at-add-value-at : (t : ℕ)
     → value-at-lts.Need-add-value-at
     (wide-reads.Asked, wide-reads.Learnt, value-at-below t, value-at.Post, join-reads.Asked, join-reads.Learnt)
     (value-at-at t) value-at.Post
-value-at-add-value-at t c = omega (arith, read-inside _ _ _ _ _ (c .before .before .before .before .before .pre .1))
+value-at-add-value-at t c = omega (arith, read-inside _ _ _ _ (c .before .before .before .before .before .pre .1 .legible))
 
 value-at-value-at-requires : (t : ℕ)
     → value-at-lts.Need-value-at-requires
@@ -84,7 +85,7 @@ value-at-value-at-requires : (t : ℕ)
     (value-at-at t) value-at.Post
 value-at-value-at-requires t c κs =
     let c5 = c .before .before .before .before .before in
-    (omega (arith, read-before _ _ _ _ _ (c5 .pre .1), c5 .pre .0), read-operand _ _ _ _ _ (c5 .pre .1) (c .if2 .left))
+    (omega (arith, read-before _ _ _ _ (c5 .pre .1 .legible), c5 .pre .0), operand-readable _ _ _ _ _ (c5 .pre .1) (c .if2 .left))
 
 value-at-sub-t19 : (t : ℕ)
     → value-at-lts.Need-sub-t19
@@ -110,12 +111,12 @@ value-at-value-at-requires-2 t c κs =
     let h : 252 < getD (a .file .now) (a .at) 0 = omega (arith, c .before .before .if2 .left, c .if3 .left) in (
       omega (
         arith,
-        second-later _ _ _ _ _ (c7 .pre .1) h _ (c .before .value-at .ensures),
-        read-before _ _ _ _ _ (c7 .pre .1),
-        read-before _ _ _ _ _ (read-second _ _ _ _ _ (c7 .pre .1) h _ (c .before .value-at .ensures)),
+        second-later _ _ _ _ (c7 .pre .1 .legible) h _ (c .before .value-at .ensures .place),
+        read-before _ _ _ _ (c7 .pre .1 .legible),
+        read-before _ _ _ _ (second-readable _ _ _ _ _ (c7 .pre .1) h _ (c .before .value-at .ensures) .legible),
         c7 .pre .0,
       ),
-      read-second _ _ _ _ _ (c7 .pre .1) h _ (c .before .value-at .ensures),
+      second-readable _ _ _ _ _ (c7 .pre .1) h _ (c .before .value-at .ensures),
     )
 
 value-at-join-requires : (t : ℕ)

@@ -1,12 +1,13 @@
 use mathlib.Core.Path.{refl, _∙_}
-use Rattle.machine.specs.ObeyLaws.{fitting, inside, label-there, obeys-jp, obeys-js, obeys-jpc, obeys-jsc, obeys-stay}
+use Rattle.program.specs.Standing.{inside, label-there}
+use Rattle.machine.specs.ObeyLaws.{fitting, obeys-jp, obeys-js, obeys-jpc, obeys-jsc, obeys-stay}
 use native.Mathlib.Omega.{arith}
 use borrow.Author.Needs.{needs}
 use Rattle.machine.proofs.obey.jump_at.Statement.{statement}
 use Rattle.machine.proofs.obey.jump_at.Tie as tie
 
 shared-slice-read-code : tie.Need-shared-slice-read-code
-shared-slice-read-code c = inside _ _ _ _ _ (c .before .before .before .pre .0) _ (c .before .before .before .pre .1 .0)
+shared-slice-read-code c = inside _ _ _ _ (c .before .before .before .pre .0 .standing) _ (c .before .before .before .pre .1 .0)
 
 add-word : tie.Need-add-word
 add-word c = search needs
@@ -14,7 +15,7 @@ add-word c = search needs
 word-requires : tie.Need-word-requires
 word-requires c κs =
     let c3 = c .before .before .before in
-    label-there _ _ _ _ _ (c3 .pre .0) _ (c3 .pre .1 .0) _ refl (c3 .pre .1 .2)
+    label-there _ _ _ _ (c3 .pre .0 .standing) _ (c3 .pre .1 .0) _ refl (c3 .pre .1 .2)
 
 of-word-requires : tie.Need-of-word-requires
 of-word-requires c κs = search needs
@@ -43,7 +44,7 @@ cell-at-requires c κs =
 add-t15 : tie.Need-add-t15
 add-t15 c =
     let c11 = c .before .before .before .before .before .before .before .before .before .before .before in
-    omega (arith, (c11 .pre .0) .low, (c11 .pre .0) .most)
+    omega (arith, c11 .pre .0 .standing .low, c11 .pre .0 .standing .most)
 
 returns-3 : tie.Need-returns-3
 returns-3 c =

@@ -1,5 +1,6 @@
 use mathlib.Core.Path.{refl}
-use Rattle.machine.specs.ObeyLaws.{contents-there, fitting, inside, obeys-end, obeys-plain}
+use Rattle.program.specs.Standing.{contents-there, inside}
+use Rattle.machine.specs.ObeyLaws.{fitting, obeys-end, obeys-plain}
 use native.Mathlib.Omega.{arith}
 use borrow.Author.Needs.{needs}
 use Rattle.machine.proofs.obey.obey.Statement.{statement}
@@ -7,10 +8,10 @@ use Rattle.machine.proofs.obey.obey.Tie as tie
 
 body-at-requires : tie.Need-body-at-requires
 body-at-requires c κs =
-    ((c .before .before .pre) .low, (c .before .before .pre) .most, contents-there _ _ _ _ _ (c .before .before .pre))
+    (let s = c .before .before .pre .standing in (s .low, s .most, contents-there _ _ _ _ s))
 
 shared-slice-read-if1 : tie.Need-shared-slice-read-if1
-shared-slice-read-if1 c = inside _ _ _ _ _ (c .before .before .before .before .pre) _ (c .before .body-at .ensures .0)
+shared-slice-read-if1 c = inside _ _ _ _ (c .before .before .before .before .pre .standing) _ (c .before .body-at .ensures .0)
 
 flag-requires : tie.Need-flag-requires
 flag-requires c κs = omega (arith, fitting _ _ _ _ _ (c .before .before .before .before .before .before .pre) .most)
@@ -36,7 +37,7 @@ shared-slice-read-if2 : tie.Need-shared-slice-read-if2
 shared-slice-read-if2 c =
     let c3 = c .before .before .before in
     let c6 = c3 .before .before .before in
-    inside _ _ _ _ _ (c6 .pre) _ (c3 .body-at .ensures .0)
+    inside _ _ _ _ (c6 .pre .standing) _ (c3 .body-at .ensures .0)
 
 perform-at-requires : tie.Need-perform-at-requires
 perform-at-requires c κs =
@@ -48,7 +49,7 @@ perform-at-requires c κs =
 add-t18 : tie.Need-add-t18
 add-t18 c =
     let c12 = c .before .before .before .before .before .before .before .before .before .before .before .before in
-    omega (arith, (c12 .pre) .low, (c12 .pre) .most)
+    omega (arith, c12 .pre .standing .low, c12 .pre .standing .most)
 
 same-length-2 : tie.Need-same-length-2
 same-length-2 c = search needs

@@ -1,12 +1,13 @@
 use mathlib.Core.Path.{refl}
-use Rattle.machine.specs.ObeyLaws.{fitting, inside, by-alone, by-value, by-variable, readable, value-codes, variable-there, variable-codes}
+use Rattle.program.specs.Standing.{inside, value-codes, variable-there, variable-codes}
+use Rattle.machine.specs.ObeyLaws.{fitting, by-alone, by-value, by-variable, readable}
 use native.Mathlib.Omega.{arith}
 use borrow.Author.Needs.{needs}
 use Rattle.machine.proofs.obey.perform_at.Statement.{statement}
 use Rattle.machine.proofs.obey.perform_at.Tie as tie
 
 shared-slice-read-code : tie.Need-shared-slice-read-code
-shared-slice-read-code c = inside _ _ _ _ _ (c .before .before .before .pre .0) _ (c .before .before .before .pre .1 .0 .0)
+shared-slice-read-code c = inside _ _ _ _ (c .before .before .before .pre .0 .standing) _ (c .before .before .before .pre .1 .0 .0)
 
 flag-op-requires : tie.Need-flag-op-requires
 flag-op-requires c κs = (fitting _ _ _ _ _ (c .before .before .before .before .before .pre .0), c .before .if1 .taken)
@@ -57,7 +58,7 @@ value-op-requires c κs =
     let c5 = c4 .before in
     let c10 = c5 .before .before .before .before .before in (
       fitting _ _ _ _ _ (c10 .pre .0),
-      value-codes _ _ _ _ _ (c10 .pre .0) _ (c10 .pre .1 .0 .0) _ refl
+      value-codes _ _ _ _ (c10 .pre .0 .standing) _ (c10 .pre .1 .0 .0) _ refl
           (omega (arith, c5 .if2 .left, c10 .pre .1 .1 .0)) (c4 .if3 .taken),
     )
 
@@ -80,7 +81,7 @@ add-of-byte c = search needs
 shared-slice-read-of-byte : tie.Need-shared-slice-read-of-byte
 shared-slice-read-of-byte c =
     let c8 = c .before .before .before .before .before .before .before .before in
-    variable-there _ _ _ _ _ (c8 .pre .0) _ (c8 .pre .1 .0 .0) _ refl (omega (arith, c .before .before .if3 .left))
+    variable-there _ _ _ _ (c8 .pre .0 .standing) _ (c8 .pre .1 .0 .0) _ refl (omega (arith, c .before .before .if3 .left))
     (c8 .pre .1 .1 .1)
 
 of-byte-requires : tie.Need-of-byte-requires
@@ -91,7 +92,7 @@ variable-op-requires c κs =
     let c3 = c .before .before .before in
     let c9 = c3 .before .before .before .before .before .before in (
       fitting _ _ _ _ _ (c9 .pre .0),
-      variable-codes _ _ _ _ _ (c9 .pre .0) _ (c9 .pre .1 .0 .0) _ refl
+      variable-codes _ _ _ _ (c9 .pre .0 .standing) _ (c9 .pre .1 .0 .0) _ refl
           (omega (arith, c3 .if3 .left)) (c9 .pre .1 .1 .1) _ (c .of-byte .ensures),
     )
 

@@ -65,8 +65,8 @@ run-from-run-from-requires t c κs =
     let start = c11 in
     let e : c6 .obey .result ≡ On (c .before .before .j .given .0 .0) = cc in
     let o = rw e at (c6 .obey .ensures) in (
-      omega (arith, o .leads .0, o .leads .1, start .pre .0, start .pre .1 .count),
-      runnable-at _ _ _ _ _ (start .pre .1) _ (o .stored) _ (omega (arith, o .leads .1, start .pre .1 .count)),
+      omega (arith, o .leads .0, o .leads .1, start .pre .0, start .pre .1 .standing .count),
+      runnable-at _ _ _ _ _ (start .pre .1) _ (o .stored) _ (omega (arith, o .leads .1, start .pre .1 .standing .count)),
     )
 
 run-from-enum-known-l : (t : ℕ)
@@ -88,8 +88,8 @@ run-from-run-from-requires-2 t c κs =
     let start = c11 in
     let e : c6 .obey .result ≡ Call (c .before .before .l .given .0 .0) = cc in
     let o = rw e at (c6 .obey .ensures) in (
-      omega (arith, o .leads .0, o .leads .1, start .pre .0, start .pre .1 .count),
-      runnable-at _ _ _ _ _ (start .pre .1) _ (o .stored) _ (omega (arith, o .leads .1, start .pre .1 .count)),
+      omega (arith, o .leads .0, o .leads .1, start .pre .0, start .pre .1 .standing .count),
+      runnable-at _ _ _ _ _ (start .pre .1) _ (o .stored) _ (omega (arith, o .leads .1, start .pre .1 .standing .count)),
     )
 
 run-from-enum-known-m : (t : ℕ)
@@ -103,7 +103,7 @@ run-from-add-t27 : (t : ℕ)
 run-from-add-t27 t c =
     let c19
     = c .before .before .before .before .before .before .before .before .before .before .before .before .before .before .before .before .before .before .before in
-    omega (arith, c19 .pre .1 .low, c19 .pre .1 .most)
+    omega (arith, c19 .pre .1 .standing .low, c19 .pre .1 .standing .most)
 
 run-from-run-from-requires-3 : (t : ℕ)
     → run-from-lts.Need-run-from-requires-3 (obey-reads.Asked, obey-reads.Learnt, run-from-below t, run-from.Post)
@@ -116,9 +116,9 @@ run-from-run-from-requires-3 t c κs =
     let start = c19 in
     let e : c14 .obey .result ≡ Call (c10 .l .given .0 .0) = cc in
     let o = rw e at (c14 .obey .ensures) in (
-      omega (arith, start .pre .0, start .pre .1 .low),
-      runnable-at _ _ _ _ _ (runnable-at _ _ _ _ _ (start .pre .1) _ (o .stored) _ (start .pre .1 .low)) _
-          (c7 .run-from2 .ensures .stored) _ (omega (arith, o .leads .0, o .leads .1, start .pre .1 .count)),
+      omega (arith, start .pre .0, start .pre .1 .standing .low),
+      runnable-at _ _ _ _ _ (runnable-at _ _ _ _ _ (start .pre .1) _ (o .stored) _ (start .pre .1 .standing .low)) _
+          (c7 .run-from2 .ensures .stored) _ (omega (arith, o .leads .0, o .leads .1, start .pre .1 .standing .count)),
     )
 
 run-from-enum-known-j-2 : (t : ℕ)
