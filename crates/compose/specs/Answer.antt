@@ -14,20 +14,20 @@ use Rattle.rules.specs.Shape as R
 use Rattle.rules.specs.Sets.{Heads}
 use Rattle.rules.specs.SetFile.{TransferSet, leaves, readSet}
 use Rattle.rules.specs.Room.{room}
-use Rattle.rules.specs.Operations.{setOf, composed, writeInto, finish, sameShape, compose, neither, blamed}
+use Rattle.rules.specs.Operations.{composed, finish, sameShape, compose, neither, blamed}
 use Rattle.laws.specs.Shape.{shape-limits}
-use Rattle.laws.specs.After.{Stands, over, after-acts}
+use Rattle.laws.specs.After.{Stands, after-acts}
 use Rattle.laws.specs.Files.{same-shape}
 use Rattle.base.specs.Answers.{shapeOf, refusedBy}
 use Rattle.base.specs.declared.shape.Shape.{Shape}
 use Rattle.base.specs.declared.refusal.Refusal.{Refusal}
 use Rattle.base.specs.declared.refusal.Refusal.the-variants.{NoRoom, ShapesDiffer}
-use Rattle.rows.specs.Entries.{tableIn}
-use Rattle.rows.specs.Table.{Stored}
+use Rattle.rows.specs.Table.{Holds}
+use Rattle.rows.specs.Making.{Drawn}
 use Rattle.rows.specs.Adding.{stored-length}
 use Rattle.rows.specs.declared.table.Table.{Table}
 use Rattle.writer.specs.Contracts.{Writes}
-use Rattle.reach.specs.Tabled.{Tabled}
+use Rattle.writer.specs.Finish.{Finishing, Finishes}
 use Rattle.writer.specs.declared.Written.{Written}
 use Rattle.writer.specs.declared.Written.the-variants as W
 use Rattle.sets.specs.Spelt.{setIn, rowsIn, Taken, spelt-shape, spelt-length, taken-read, taken-proper}
@@ -135,7 +135,7 @@ module _ (first second : List ℕ) (rows numbers : ℕ) (out : List ℕ) where
 
         module _ (r : Ready first second rows numbers) where
           -- R54: then the table, and the output.
-          answer-is : v ≡ finish old (X .shape) rows (length out) (composed X Y)
+          pub answer-is : v ≡ finish old (X .shape) rows (length out) (composed X Y)
           unfolding compose
           answer-is = rw (
             taken-read first a,
@@ -145,16 +145,6 @@ module _ (first second : List ℕ) (rows numbers : ℕ) (out : List ℕ) where
             numbers-is,
             le-ltb numbers (length (X .tab) + rowsIn second) (r .numbers-lent),
           )
-
-          pub table-full : room rows < length (composed X Y .tab) → (n : ℕ) → n ≡ room rows
-              → Writes v (W.Refused (NoRoom n)) out out
-          unfolding finish
-          table-full h n e = refused-writes (NoRoom n) (answer-is ∙ rw (lt-ltb (room rows) (length (composed X Y .tab)) h, e))
-
-          pub table-fits : length (composed X Y .tab) ≤ room rows
-              → v ≡ writeInto old (length (composed X Y .tab)) (length out) (setOf (X .shape) (composed X Y))
-          unfolding finish
-          table-fits h = answer-is ∙ rw (le-ltb (room rows) (length (composed X Y .tab)) h)
 
 -- ---- the composed table written
 
@@ -166,8 +156,8 @@ module _ (first second : List ℕ) (shape : Shape) (rows : List ℕ) (s : Table)
   pair : Pair first second shape
   pair = f .carrying .pair
 
-  stored : Stored rows (s .used) (Z .tab)
-  stored = composed-holds first second shape pair rows numbers s (f .carrying) .kept (f .kept)
+  holds : Holds rows s (Z .tab)
+  holds = composed-holds first second shape pair rows numbers s (f .carrying)
 
   stands : Stands (cells (shapeOf shape)) Z
   stands = after-acts (setIn first .tab) (setIn first .heads) (setIn second .tab) (setIn second .heads)
@@ -188,28 +178,26 @@ module _ (first second : List ℕ) (shape : Shape) (rows : List ℕ) (s : Table)
       omega (arith, l .shallow, l .most)
 
   module _ (heads : List ℕ) (e : heads ≡ newHeads first second shape numbers) where
-    heads-are : over (tableIn rows (s .used)) heads ≡ Z
-    heads-are =
-        let t = stored .table in
-        let h = e ∙ heads-moved first second shape pair rows numbers s (f .carrying) (f .kept) in
-        λ i. record { tab = t i; heads = h i }
+    drawn : Drawn rows s heads Z
+    drawn = record { holds = holds; same = λ k. e ∙ heads-moved first second shape pair rows numbers s (f .carrying) k }
 
-    pub tabled : Tabled (shapeOf shape) heads rows (s .used) (length numbers)
-    tabled =
-        let size = stored-length stored in
-        let few = composed-few first second shape pair rows numbers s (f .carrying) in
-        record {
-          shaped = shape-checked;
-          stands = rw heads-are stands;
-          held = omega (arith, stored .held);
-          small = omega (arith, stored .held);
-          room = omega (arith, f .ready .numbers-lent);
-        }
+    pub finishing : Finishing (shapeOf shape) heads rows s (length numbers)
+    finishing = record {
+      made = Z;
+      drawn = drawn;
+      stands = stands;
+      shaped = shape-checked;
+      enough = λ k. omega (
+        arith,
+        stored-length (holds .kept k),
+        composed-few first second shape pair rows numbers s (f .carrying),
+        f .ready .numbers-lent,
+      );
+    }
 
-    pub written-is : (out : List ℕ) → answer first second (length rows) (length numbers) out
-        ≡ writeInto old (s .used) (length out) (setOf (shapeOf shape) (over (tableIn rows (s .used)) heads))
-    written-is out =
-        let size = stored-length stored in
-        table-fits first second (length rows) (length numbers) out (pair .one) (pair .two) (pair .same) (f .ready)
-        (omega (arith, stored .held))
-        ∙ rw (size, shape-is, heads-are)
+    -- R54, R59: what the rules finish with is what they answer.
+    pub finished : (r : Written) (out after : List ℕ) → Finishes (shapeOf shape) heads rows s r out after
+        → Writes (answer first second (length rows) (length numbers) out) r out after
+    finished r out after w =
+        rw (answer-is first second (length rows) (length numbers) out (pair .one) (pair .two) (pair .same) (f .ready), shape-is)
+        (w Z drawn)

@@ -1,7 +1,6 @@
 -- What composing answers, in the words of the rules, what it leaves in the output, and that there is one answer only.
 use Prim.Native.Nat.{ℕ, _+_, _≤_}
 use mathlib.Core.Path.{_≡_, refl, ap, ap₂, sym, _∙_}
-use mathlib.Core.Bool.{false}
 use mathlib.Core.List.{List}
 use lib.ListN.{length}
 use Rattle.rules.specs.Verdict.{Verdict, granted, refused}
@@ -52,11 +51,10 @@ pub record Pairs (first second : List ℕ) (shape : Shape) (total rows numbers :
   pub whole : total ≡ length (setIn first .tab)
   pub ready : Ready first second rows numbers
 
--- All rows of the second set have been carried, and the table is not refused.
+-- All rows of the second set have been carried.
 pub record Finished (first second : List ℕ) (shape : Shape) (rows : List ℕ) (s : Table) (numbers : List ℕ) : Type 0 where
   pub carrying : Carrying first second shape rows s numbers (rowsIn second)
   pub ready : Ready first second (length rows) (length numbers)
-  pub kept : s .refused ≡ false
 
 -- R46, R51, R52: two results that meet the contract are the same, with the same output after.
 answerOf : Verdict ℕ → Blamed → Composed

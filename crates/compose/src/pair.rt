@@ -8,7 +8,7 @@ use carry::move_heads;
 use program::header::shape_at;
 use rows::table::Table;
 use writer::Written;
-use writer::write_table;
+use writer::write_finished;
 ghost use mathlib.Core.Path.{_≡_};
 ghost use lib.ListN.{length};
 ghost use Rattle.rules.specs.Shape.{cells};
@@ -26,14 +26,7 @@ fn same_shape(a: Shape, b: Shape) -> bool
     a.depth == b.depth && (a.inputs == b.inputs && (a.outputs == b.outputs && a.memory == b.memory))
 }
 
-// R53: how many of so many rows may be used.
-fn room_in(rows: usize) -> usize
-    ensures { λ r. ⌜ r ≡ room rows ⌝ }
-{
-    if rows < 65535 { rows } else { 65535 }
-}
-
-// Writes the composed set: the second set's heads are renumbered first.
+// R54: writes the composed set: the second set's heads are renumbered first.
 fn write_moved(
     first: &[u8],
     second: &[u8],
@@ -51,7 +44,7 @@ fn write_moved(
         (length (now (numbers .entry))) (now (out .entry))) r (now (out .entry)) (now (out .exit)) ⌝ }
 {
     move_heads(first, second, shape, numbers, heads);
-    write_table(shape, heads, rows, table.used, numbers, out)
+    write_finished(shape, heads, rows, table, numbers, out)
 }
 
 // Lends the heads: a shape has at most 217 cells (R1, R2).
@@ -104,9 +97,6 @@ fn compose_pair(
         refused: false,
     };
     let table = carry_rows(first, second, shape, rows, start, numbers);
-    if table.refused {
-        return Written::Refused(Refusal::NoRoom(room_in(rows.len()) as u32));
-    }
     write_composed(first, second, shape, rows, table, numbers, out)
 }
 

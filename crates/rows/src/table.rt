@@ -14,6 +14,7 @@ ghost use Prim.Native.Nat.{_-_, _≤_, _<_};
 ghost use lib.ListN.{length, getD};
 ghost use lib.Dec.{eqb};
 ghost use Rattle.rules.specs.Lists.{seek};
+ghost use Rattle.rules.specs.Room.{room};
 ghost use Rattle.rules.specs.Rows.{plan};
 ghost use Rattle.laws.specs.Canonical.{Below};
 ghost use Rattle.rows.specs.Entries.{nodeRow, planRow, rowOfEntry};
@@ -29,6 +30,13 @@ pub struct Table {
 pub struct Added {
     pub row: Row,
     pub table: Table,
+}
+
+// R53: how many of so many rows may be used.
+pub fn room_in(rows: usize) -> usize
+    ensures { λ r. ⌜ r ≡ room rows ⌝ }
+{
+    if rows < 65535 { rows } else { 65535 }
 }
 
 // R28, R29: the plan for an operation over rows that stand.

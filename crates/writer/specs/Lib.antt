@@ -4,3 +4,4 @@ pub mod Kept
 pub mod Contracts
 pub mod Write
 pub mod Table
+pub mod Finish

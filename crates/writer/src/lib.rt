@@ -10,6 +10,8 @@ use base::shape::Shape;
 use program::Checked;
 use program::header::check_shape;
 use reach::number::number_reached;
+use rows::table::Table;
+use rows::table::room_in;
 ghost use mathlib.Core.Path.{_≡_};
 ghost use lib.ListN.{length};
 ghost use Rattle.rules.specs.Verdict.{granted};
@@ -21,6 +23,7 @@ ghost use Rattle.laws.specs.After.{over};
 ghost use Rattle.base.specs.Answers.{shapeOf};
 ghost use Rattle.rows.specs.Entries.{tableIn};
 ghost use Rattle.writer.specs.Contracts.{Writes};
+ghost use Rattle.writer.specs.Finish.{Finishing, Finishes};
 ghost use Rattle.reach.specs.Tabled.{Tabled};
 
 // How writing a set ended.
@@ -59,7 +62,7 @@ pub fn write_unchanging(shape: Shape, out: &mut [u8]) -> Written
 }
 
 // R36, R41, R59: writes the set that heads over a table are: the rows that they reach, renumbered in order. A short output is untouched.
-pub fn write_table(
+fn write_table(
     shape: Shape,
     heads: &[u16],
     rows: &[u64],
@@ -84,4 +87,24 @@ pub fn write_table(
     put_heads(out, heads, numbers);
     put_rows(out, 7 + 2 * cells, rows, 2 + cells, used, numbers);
     Written::Length(length)
+}
+
+// R54, R59: the end of building and composing: a table that found no row left is 10, with as many rows as may be used; else its
+// set is written.
+pub fn write_finished(
+    shape: Shape,
+    heads: &[u16],
+    rows: &[u64],
+    table: Table,
+    numbers: &mut [u16],
+    out: &mut [u8],
+) -> Written
+    requires { ⌜ Finishing (shapeOf shape) (now heads) (now rows) table (length (now numbers)) ⌝ }
+    ensures { λ r.
+        ⌜ Finishes (shapeOf shape) (now (heads .entry)) (now (rows .entry)) table r (now (out .entry)) (now (out .exit)) ⌝ }
+{
+    if table.refused {
+        return Written::Refused(Refusal::NoRoom(room_in(rows.len()) as u32));
+    }
+    write_table(shape, heads, rows, table.used, numbers, out)
 }

@@ -1,5 +1,5 @@
 -- `write_moved` meets its contract.
-use Rattle.compose.specs.Answer.{moving, tabled, written-is}
+use Rattle.compose.specs.Answer.{moving, finishing, finished}
 use borrow.Author.Needs.{needs}
 use Rattle.compose.proofs.pair.write_moved.Statement.{statement}
 use Rattle.compose.proofs.pair.write_moved.Tie as tie
@@ -9,11 +9,11 @@ move-heads-requires c κs =
     let c8 = c .before .before .before .before .before .before .before .before in
     moving _ _ _ _ _ _ (c8 .pre .0) _ (c8 .pre .1)
 
-write-table-requires : tie.Need-write-table-requires
-write-table-requires c κs =
+write-finished-requires : tie.Need-write-finished-requires
+write-finished-requires c κs =
     let c5 = c .before .before .before .before .before in
     let c14 = c5 .before .before .before .before .before .before .before .before .before in
-    tabled _ _ _ _ _ _ (c14 .pre .0) _ (c5 .move-heads .ensures)
+    finishing _ _ _ _ _ _ (c14 .pre .0) _ (c5 .move-heads .ensures)
 
 same-length : tie.Need-same-length
 same-length c = search needs
@@ -29,14 +29,14 @@ returns c =
     let c4 = c .before .before .before .before in
     let c10 = c4 .before .before .before .before .before .before in
     let c19 = c10 .before .before .before .before .before .before .before .before .before in
-    rw (written-is _ _ _ _ _ _ (c19 .pre .0) _ (c10 .move-heads .ensures) _) (c4 .write-table .ensures)
+    finished _ _ _ _ _ _ (c19 .pre .0) _ (c10 .move-heads .ensures) _ _ _ (c4 .write-finished .ensures)
 
 pub write-moved-spec : {M : Type 1} → statement M
 write-moved-spec =
     tie.close
     (tie.spec
     move-heads-requires
-    write-table-requires
+    write-finished-requires
     same-length
     same-length-2
     same-length-3
