@@ -2,7 +2,7 @@
 use Prim.Native.Nat.{ℕ, zero, suc, _<_}
 use mathlib.Core.Path.{_≡_, refl, sym, ap, ap₂, _∙_}
 use mathlib.Core.Bool.{Bool, true, false, not, cond, or-false}
-use mathlib.Core.List.{List, [], _∷_, map, zipWith, zip}
+use mathlib.Core.List.{List, [], _∷_, _++_, map, zipWith, zip}
 use native.Mathlib.Omega.{arith}
 use lib.ListN.{length, getD}
 use lib.Dec.{eqb}
@@ -45,6 +45,14 @@ module _ {A : Type 0} (put : List Row → A → Added) (grown : (t : List Row) (
   unfolding each
   each-count t [] = refl
   each-count t (x ∷ xs) = ap suc (each-count (put t x .tab) xs)
+
+  -- One element more at the end.
+  pub each-more : (t : List Row) (xs : List A) (x : A)
+      → each put t (xs ++ (x ∷ [])) ≡ (let a = put (each put t xs .tab) x in over (a .tab) (each put t xs .heads ++ (a .row ∷ [])))
+  unfolding each
+  each-more t [] x = refl
+  each-more t (z ∷ xs) x =
+      ap (λ (h : Heads). over (h .tab) (put t z .row ∷ h .heads)) (each-more (put t z .tab) xs x)
 
   -- Where each addition is sound in every table that continues t, so are the heads made of all of them.
   pub each-owed : {C : ℕ} (t : List Row) (v : List Bool → A → Bool) (xs : List A) → All (Good C put t v) xs → (u : List Row)
@@ -126,7 +134,7 @@ cond-same true p q e = refl
 cond-same false p q e = e
 
 -- One cell's choice has the value of x where f is 1, else of y.
-choose-sound : {C : ℕ} {t : List Row} → Canonical C t → (f x y : ℕ) → f < length t → x < length t → y < length t
+pub choose-sound : {C : ℕ} {t : List Row} → Canonical C t → (f x y : ℕ) → f < length t → x < length t → y < length t
     → Sound C (choose t f x y) (λ s. cond (value t s f) (value t s x) (value t s y))
 unfolding choose
 choose-sound {C} {t} w f x y hf hx hy = go (eqb x y) refl
@@ -146,11 +154,20 @@ pub choice-grown : (t : List Row) (f : ℕ) (x y : List ℕ) → Grown t (choice
 unfolding choice
 choice-grown t f x y = each-grown (λ u p. choose u f (p .0) (p .1)) (λ u p. choose-grown u f (p .0) (p .1)) t (zip x y)
 
-length-zip : (x y : List ℕ) → length x ≡ length y → length (zip x y) ≡ length x
+pub length-zip : (x y : List ℕ) → length x ≡ length y → length (zip x y) ≡ length x
 unfolding zip zipWith
 length-zip [] y e = refl
 length-zip (a ∷ x) [] e = absurd (omega arith)
 length-zip (a ∷ x) (b ∷ y) e = ap suc (length-zip x y (omega arith))
+
+-- The pair at a place.
+pub zip-at : (x y : List ℕ) → length x ≡ length y → (c : ℕ) → getD (zip x y) c (0, 0) ≡ (getD x c 0, getD y c 0)
+unfolding zip zipWith
+zip-at [] [] e c = refl
+zip-at [] (b ∷ y) e c = absurd (omega arith)
+zip-at (a ∷ x) [] e c = absurd (omega arith)
+zip-at (a ∷ x) (b ∷ y) e zero = refl
+zip-at (a ∷ x) (b ∷ y) e (suc c) = zip-at x y (omega arith) c
 
 map-zip : (g : ℕ → Bool) (f : Bool) (x y : List ℕ) → length x ≡ length y
     → map (λ (p : ℕ × ℕ). cond f (g (p .0)) (g (p .1))) (zip x y) ≡ cond f (map g x) (map g y)
