@@ -1,0 +1,52 @@
+-- What a turn of building has to know, and what it leaves.
+use Prim.Native.Nat.{ℕ, suc, _*_, _≤_, _<_}
+use mathlib.Core.Path.{_≡_}
+use mathlib.Core.Bool.{false}
+use mathlib.Core.List.{List, []}
+use lib.ListN.{length, getD, take, drop}
+use Rattle.rules.specs.Verdict.{granted}
+use Rattle.rules.specs.Edition.{old}
+use Rattle.rules.specs.Shape as R
+use Rattle.rules.specs.Shape.{cells, flag, checkShape}
+use Rattle.rules.specs.Rows.{Row, rowOfCell}
+use Rattle.rules.specs.Instr.{Instr, JP, END}
+use Rattle.rules.specs.Sets.{Heads, after, choice}
+use Rattle.rules.specs.Build as B
+use Rattle.rules.specs.Build.{setAt, turnHeads, turns}
+use Rattle.rules.specs.Room.{room}
+use Rattle.laws.specs.After.{Stands, over}
+use Rattle.base.specs.Answers.{shapeOf}
+use Rattle.base.specs.declared.shape.Shape.{Shape}
+use Rattle.program.specs.Standing.{programIn, instrAt, Standing}
+use Rattle.program.specs.Codes.{onLabel}
+use Rattle.rows.specs.Table.{Holds}
+use Rattle.rows.specs.Making.{Drawn}
+use Rattle.rows.specs.declared.table.Table.{Table}
+
+-- R38: what the rules have built when T(n-1) down to T(i) are.
+abbrev pub built : List ℕ → ℕ → B.Built
+built file i = turns (programIn file .shape) i (drop i (programIn file .instrs))
+
+-- R38: the heads of T(l) of C cells, in the one slice of heads.
+abbrev pub slot : ℕ → List ℕ → ℕ → List ℕ
+slot C heads l = take C (drop (l * C) heads)
+
+-- R38: the state stands for what is built from T(i) on, and unless it is refused the heads of these are in their slots.
+pub record Building (file : List ℕ) (sh : Shape) (n : ℕ) (rows : List ℕ) (s : Table) (heads : List ℕ) (i : ℕ) : Type 0 where
+  pub standing : Standing file sh n 0
+  pub high : i ≤ n
+  pub heads-lent : n * cells (shapeOf sh) ≤ length heads
+  pub holds : Holds rows s (built file i .tab)
+  pub slots : s .refused ≡ false → (l : ℕ) → i ≤ l → l < n → slot (cells (shapeOf sh)) heads l ≡ setAt (built file i) i l
+
+-- R38: the heads of the turn of instruction i.
+abbrev pub turnAt : List ℕ → ℕ → Heads
+turnAt file i = turnHeads (programIn file .shape) i (instrAt file i) (built file (suc i) .tab) (setAt (built file (suc i)) (suc i))
+
+-- T(i+1) and on are built, the state is not refused, and there is room for the heads of T(i).
+pub record Turning (file : List ℕ) (sh : Shape) (n i : ℕ) (rows : List ℕ) (s : Table) (numbers : ℕ) (heads made : List ℕ) : Type 0 where
+  pub low : i < n
+  pub built-on : Building file sh n rows s heads (suc i)
+  pub kept : s .refused ≡ false
+  pub numbers-lent : room (length rows) ≤ numbers
+  pub count : length made ≡ cells (shapeOf sh)
