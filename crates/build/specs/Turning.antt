@@ -1,8 +1,8 @@
 -- What a turn of building has to know, and what it leaves.
-use Prim.Native.Nat.{ℕ, suc, _*_, _≤_, _<_}
+use Prim.Native.Nat.{ℕ, suc, _*_, _-_, _≤_, _<_}
 use mathlib.Core.Path.{_≡_}
 use mathlib.Core.Bool.{false}
-use mathlib.Core.List.{List, []}
+use mathlib.Core.List.{List, [], _∷_}
 use lib.ListN.{length, getD, take, drop}
 use Rattle.rules.specs.Verdict.{granted}
 use Rattle.rules.specs.Edition.{old}
@@ -22,6 +22,7 @@ use Rattle.program.specs.Codes.{onLabel}
 use Rattle.rows.specs.Table.{Holds}
 use Rattle.rows.specs.Making.{Drawn}
 use Rattle.rows.specs.declared.table.Table.{Table}
+use Rattle.rewrite.specs.Follow.{Following}
 
 -- R38: what the rules have built when T(n-1) down to T(i) are.
 abbrev pub built : List ℕ → ℕ → B.Built
@@ -50,3 +51,20 @@ pub record Turning (file : List ℕ) (sh : Shape) (n i : ℕ) (rows : List ℕ) 
   pub kept : s .refused ≡ false
   pub numbers-lent : room (length rows) ≤ numbers
   pub count : length made ≡ cells (shapeOf sh)
+
+-- R38: the heads of a jump or call by its code, where X is T(l), and y is T(i+1).
+abbrev pub jumped : R.Shape → ℕ → Heads → List ℕ → Heads
+jumped sh code X y =
+    let f = rowOfCell (flag sh) in
+    let a = after (X .tab) (X .heads) (X .tab) y in
+    getD (X ∷ choice (X .tab) f (X .heads) y ∷ a ∷ choice (a .tab) f (a .heads) y ∷ []) (code - 48) X
+
+-- T(l) stands in `made`, T(i+1) is y, and the code is that of a jump or call.
+pub record Jumping (sh : R.Shape) (code : ℕ) (y rows : List ℕ) (s : Table) (numbers : ℕ) (made : List ℕ) : Type 0 where
+  pub following : Following sh y rows s numbers made
+  pub codes : (48 ≤ code) × (code < 52)
+
+-- R38: what is left stands for the jump or call from any heads that `made` stood for.
+abbrev pub Jumps : R.Shape → ℕ → List ℕ → List ℕ → Table → List ℕ → List ℕ → Table → List ℕ → Type 0
+Jumps sh code y rows s made rows′ s′ made′ = (X : Heads) → Drawn rows s made X → Stands (cells sh) X → Stands (cells sh) (over (X .tab) y)
+    → Drawn rows′ s′ made′ (jumped sh code X y)

@@ -18,7 +18,7 @@ use rows::table::room_in;
 use writer::Written;
 use writer::write_finished;
 ghost use mathlib.Core.Path.{_≡_};
-ghost use Prim.Native.Nat.{_≤_};
+ghost use Prim.Native.Nat.{_+_, _≤_};
 ghost use lib.ListN.{length};
 ghost use Rattle.rules.specs.Verdict.{granted};
 ghost use Rattle.rules.specs.Edition.{old};
@@ -29,7 +29,6 @@ ghost use Rattle.program.specs.Standing.{programIn};
 ghost use Rattle.rows.specs.Table.{Stored};
 ghost use Rattle.writer.specs.Contracts.{Writes};
 ghost use Rattle.build.specs.Contract.{answer, Builds, Ready};
-ghost use Rattle.build.specs.Turning.{Building};
 
 // How building ended.
 pub enum Built {
@@ -38,11 +37,12 @@ pub enum Built {
     Refused(Refusal),
 }
 
-// R26: the constants and cells, each in its number.
-fn put_leaves(rows: &mut [u64], leaves: usize)
-    requires { ⌜ (2 ≤ leaves) × (leaves ≤ length (now rows)) × (leaves ≤ 65535) ⌝ }
-    ensures { λ _. ⌜ Stored (now (rows .exit)) leaves (base (leaves - 2)) ⌝ }
+// R26: the constants and the cells, each in its row.
+fn put_leaves(rows: &mut [u64], cells: usize)
+    requires { ⌜ (2 + cells ≤ length (now rows)) × (2 + cells ≤ 65535) ⌝ }
+    ensures { λ _. ⌜ Stored (now (rows .exit)) (2 + cells) (base cells) ⌝ }
 {
+    let leaves = 2 + cells;
     let mut i = 0;
     while i < leaves {
         rows[i] = entry_of(Node::Leaf(Row(i as u16)));
@@ -66,7 +66,7 @@ fn build_program(
         (length (now (heads .entry))) (now (out .entry))) r (now (out .entry)) (now (out .exit)) ⌝ }
 {
     let cells = shape.cells();
-    put_leaves(rows, 2 + cells);
+    put_leaves(rows, cells);
     let start = Table {
         used: 2 + cells,
         refused: false,

@@ -11,10 +11,14 @@ use rows::table::Table;
 ghost use mathlib.Core.Path.{_≡_};
 ghost use Prim.Native.Nat.{_+_, _*_, _<_, _≤_};
 ghost use lib.ListN.{length, getD};
+ghost use Rattle.rules.specs.Edition.{old};
 ghost use Rattle.rules.specs.Shape.{cells};
+ghost use Rattle.rules.specs.ProgramFile.{bodyAt};
+ghost use Rattle.rules.specs.Room.{room};
 ghost use Rattle.base.specs.Answers.{shapeOf};
+ghost use Rattle.program.specs.Contracts.{farthest};
 ghost use Rattle.rows.specs.Making.{Drawn};
-ghost use Rattle.build.specs.Turning.{Jumping, Jumps, Turning, turnAt, Building};
+ghost use Rattle.build.specs.Turning.{slot, Jumping, Jumps, Turning, turnAt, Building};
 
 // Copies heads.
 fn copy_heads(from: &[u16], to: &mut [u16])
@@ -63,4 +67,153 @@ fn jump_heads(
         return called;
     }
     choose_heads(f, next, rows, called, made)
+}
+
+// R38: the heads of T(i) for a jump or a call, whose code stands at a place. T(l) is copied, and the code says the rest.
+fn jump_at(
+    file: &[u8],
+    shape: Shape,
+    n: usize,
+    i: Instr,
+    at: usize,
+    next: &[u16],
+    heads: &[u16],
+    rows: &mut [u64],
+    table: Table,
+    numbers: &mut [u16],
+    made: &mut [u16],
+) -> Table
+    requires { ⌜ Turning (now file) shape n (i .0) (now rows) table (length (now numbers)) (now heads) (now made) ⌝ }
+    requires { ⌜ (at ≡ bodyAt old (now file) n (i .0)) × (at < farthest) × (48 ≤ getD (now file) at 0) ⌝ }
+    requires { ⌜ now next ≡ slot (cells (shapeOf shape)) (now heads) (i .0 + 1) ⌝ }
+    ensures { λ r. ⌜ Drawn (now (rows .exit)) r (now (made .exit)) (turnAt (now (file .entry)) (i .0)) ⌝ }
+{
+    let code = file[at];
+    let cells = shape.cells();
+    let l = Instr::of_word(word(file, at + 1));
+    let from = slot_of(l, cells);
+    let to = from + cells;
+    copy_heads(&heads[from..to], made);
+    jump_heads(shape, code, next, rows, table, numbers, made)
+}
+
+// R38: the heads of T(i): an instruction's own set and T(i+1) after it, what its jump or call leads to, or for END the own set alone.
+fn turn_heads(
+    file: &[u8],
+    shape: Shape,
+    n: usize,
+    i: Instr,
+    heads: &[u16],
+    rows: &mut [u64],
+    table: Table,
+    numbers: &mut [u16],
+    made: &mut [u16],
+) -> Table
+    requires { ⌜ Turning (now file) shape n (i .0) (now rows) table (length (now numbers)) (now heads) (now made) ⌝ }
+    ensures { λ r. ⌜ Drawn (now (rows .exit)) r (now (made .exit)) (turnAt (now (file .entry)) (i .0)) ⌝ }
+{
+    let at = body_at(file, n, i);
+    if file[at] == 10 {
+        return own_heads(file, shape, n, i, at, rows, table, made);
+    }
+    let cells = shape.cells();
+    let from = slot_of(Instr(i.0 + 1), cells);
+    let to = from + cells;
+    let next = &heads[from..to];
+    if 48 <= file[at] {
+        return jump_at(
+            file,
+            shape,
+            n,
+            i,
+            at,
+            next,
+            heads,
+            rows,
+            table,
+            numbers,
+            made,
+        );
+    }
+    let own = own_heads(file, shape, n, i, at, rows, table, made);
+    follow(shape, next, rows, own, numbers, made)
+}
+
+// R38: the turn of instruction i, whose heads are put in their place.
+fn turn_into(
+    file: &[u8],
+    shape: Shape,
+    n: usize,
+    i: Instr,
+    rows: &mut [u64],
+    table: Table,
+    numbers: &mut [u16],
+    heads: &mut [u16],
+    made: &mut [u16],
+) -> Table
+    requires { ⌜ Turning (now file) shape n (i .0) (now rows) table (length (now numbers)) (now heads) (now made) ⌝ }
+    ensures { λ r. ⌜ Building (now (file .entry)) shape n (now (rows .exit)) r (now (heads .exit)) (i .0) ⌝ }
+{
+    let after = turn_heads(file, shape, n, i, heads, rows, table, numbers, made);
+    let cells = shape.cells();
+    let from = slot_of(i, cells);
+    let to = from + cells;
+    copy_heads(made, &mut heads[from..to]);
+    after
+}
+
+// R38: the turn of instruction i; a table that is refused stays as it is. Lends the heads: a shape has at most 217 cells (R1, R2).
+fn build_turn(
+    file: &[u8],
+    shape: Shape,
+    n: usize,
+    i: Instr,
+    rows: &mut [u64],
+    table: Table,
+    numbers: &mut [u16],
+    heads: &mut [u16],
+) -> Table
+    requires { ⌜ Building (now file) shape n (now rows) table (now heads) (i .0 + 1) ⌝ }
+    requires { ⌜ room (length (now rows)) ≤ length (now numbers) ⌝ }
+    ensures { λ r. ⌜ Building (now (file .entry)) shape n (now (rows .exit)) r (now (heads .exit)) (i .0) ⌝ }
+{
+    if table.refused {
+        return table;
+    }
+    let mut made = [0u16; 217];
+    let cells = shape.cells();
+    turn_into(
+        file,
+        shape,
+        n,
+        i,
+        rows,
+        table,
+        numbers,
+        heads,
+        &mut made[..cells],
+    )
+}
+
+// R38: all turns, the last instruction first.
+pub fn build_turns(
+    file: &[u8],
+    shape: Shape,
+    n: usize,
+    rows: &mut [u64],
+    start: Table,
+    numbers: &mut [u16],
+    heads: &mut [u16],
+) -> Table
+    requires { ⌜ Building (now file) shape n (now rows) start (now heads) n ⌝ }
+    requires { ⌜ room (length (now rows)) ≤ length (now numbers) ⌝ }
+    ensures { λ r. ⌜ Building (now (file .entry)) shape n (now (rows .exit)) r (now (heads .exit)) 0 ⌝ }
+{
+    let mut table = start;
+    let mut i = n;
+    while 0 < i {
+        i -= 1;
+        table = build_turn(file, shape, n, Instr(i as u16), rows, table, numbers, heads);
+    }
+    table
 }

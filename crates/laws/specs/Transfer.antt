@@ -5,7 +5,8 @@ use mathlib.Core.Bool.{Bool, true, false, cond}
 use mathlib.Core.List.{List, [], _∷_}
 use native.Mathlib.Omega.{arith}
 use native.Mathlib.Decide.{decLt}
-use lib.ListN.{length, getD}
+use lib.ListN.{length, getD, drop, length-drop}
+use lib.Seq.{drop-cons, getD-drop}
 use lib.Pow.{pow-mono}
 use Rattle.rules.specs.Shape.{Shape, vars, flag, cells}
 use Rattle.rules.specs.Instr.{INIT, Instr, plain, JP, JPC, JS, JSC, END}
@@ -216,10 +217,22 @@ module _ (P : Program) where
       let here : x ≡ getD (P .instrs) i END = f .same 0 (omega arith) ∙ ap (λ k. getD (P .instrs) k END) (omega arith) in
       rw here (turn-made wf i (omega (arith, f .size)) (turns sh (suc i) xs) (turns-made wf (suc i) xs rest))
 
+  -- What is built once T(n-1) down to T(i) are: every T(l) of these stands, and evaluating it is what the machine does from l on.
+  pub made-from : WellFormed P → (i : ℕ) → i ≤ n → Made i (turns sh i (drop i (P .instrs)))
+  made-from wf i h = turns-made wf i (drop i (P .instrs)) (record {
+    size = omega (arith, length-drop i (P .instrs));
+    same = λ j l. getD-drop i (P .instrs) j END;
+  })
+
+  -- One turn more.
+  pub turn-from : (i : ℕ) → i < n
+      → turns sh i (drop i (P .instrs)) ≡ turn sh i (getD (P .instrs) i END) (turns sh (suc i) (drop (suc i) (P .instrs)))
+  unfolding turns
+  turn-from i h = rw (drop-cons (P .instrs) i END h)
+
   -- Every T(l) of a program stands in the one table, and evaluating it is what the machine does from l on.
   pub transfer-made : WellFormed P → Made 0 (turns sh 0 (P .instrs))
-  transfer-made wf = turns-made wf 0 (P .instrs)
-      (record { size = omega arith; same = λ j h. ap (λ k. getD (P .instrs) k END) (omega arith) })
+  transfer-made wf = made-from wf 0 (omega arith)
 
   -- The program's set stands.
   pub transfer-stands : WellFormed P → Stands (cells sh) (transfer P)
