@@ -106,14 +106,3 @@ module _ (sh : Shape) (c : ℕ) (y rows : List ℕ) (s : Table) (made : List ℕ
             let z : c ≡ 51 = omega (arith, w .codes .0, w .codes .1) in
             rw z ((rw (size, count, e) at h) (called X y p q) (g X d p q) (called-stands X y p q) (called-second X y p q)
             (low (called-second X y p q)))
-
--- R38: where the heads of T(i) begin and end, for C cells and n instructions.
-pub slot-most : (i C : ℕ) → i ≤ 512 → C ≤ 217 → i * C ≤ 111104
-slot-most i C h k =
-    let a : i * C ≤ 512 * C = mul-le-mul-right C h in
-    omega arith
-
-pub slot-inside : (l n C : ℕ) → l < n → l * C + C ≤ n * C
-slot-inside l n C h =
-    let a : suc l * C ≤ n * C = mul-le-mul-right C h in
-    omega arith

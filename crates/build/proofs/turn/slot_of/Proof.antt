@@ -1,5 +1,5 @@
 use mathlib.Core.Path.{refl}
-use Rattle.build.specs.JumpLaws.{slot-most}
+use Rattle.build.specs.Slots.{slot-most}
 use native.Mathlib.Omega.{arith}
 use borrow.Author.Needs.{needs}
 use Rattle.build.proofs.turn.slot_of.Statement.{statement}

@@ -1,0 +1,264 @@
+-- The turn of one instruction: what its parts need, and a law for each end (R38).
+use Prim.Native.Nat.{ℕ, suc, _+_, _-_, _*_, _≤_, _<_}
+use mathlib.Core.Path.{_≡_, refl, sym, ap, _∙_}
+use mathlib.Core.Bool.{true, false}
+use mathlib.Core.List.{List, [], _∷_}
+use native.Mathlib.Omega.{arith}
+use native.Mathlib.Decide.{decLt}
+use lib.ListN.{length, getD}
+use Rattle.rules.specs.Verdict.{granted}
+use Rattle.rules.specs.Lists.{numberAt}
+use Rattle.rules.specs.Edition.{old}
+use Rattle.rules.specs.Shape.{vars, cells, checkShape}
+use Rattle.rules.specs.Instr.{Plain, INIT, Instr, plain, END}
+use Rattle.rules.specs.ProgramFile.{Program, bodyAt}
+use Rattle.rules.specs.Rows.{Row}
+use Rattle.rules.specs.Sets.{Heads}
+use Rattle.rules.specs.Build as B
+use Rattle.rules.specs.Build.{own, setAt, turnHeads, turn}
+use Rattle.rules.specs.Room.{room}
+use Rattle.laws.specs.Verdict.{no-false}
+use Rattle.laws.specs.Canonical.{Names, WellFormed}
+use Rattle.laws.specs.ProgramFile.{read-shape}
+use Rattle.laws.specs.Grow.{Ext, ext-refl, ext-length, grown-ext}
+use Rattle.laws.specs.After.{Stands, over, stands-ext}
+use Rattle.laws.specs.Build.{own-acts, own-grown, turnHeads-grown}
+use Rattle.laws.specs.Transfer.{Made, made-from, turn-from}
+use Rattle.base.specs.Answers.{shapeOf}
+use Rattle.base.specs.declared.shape.Shape.{Shape}
+use Rattle.base.specs.declared.kinds.Instr as K
+use Rattle.program.specs.Contracts.{farthest}
+use Rattle.program.specs.Codes.{aloneOf, onVariable, onLabel}
+use Rattle.program.specs.Standing.{programIn, instrAt, Standing, standing-at, formed, deep, tells, with-value, with-variable, goes, later}
+use Rattle.rows.specs.Making.{Open, Drawn}
+use Rattle.rows.specs.declared.table.Table.{Table}
+use Rattle.own.specs.Owning.{ownOf, Owning, Owns}
+use Rattle.rewrite.specs.Follow.{Following, Follows}
+use Rattle.build.specs.Turning.{built, slot, Building, turnAt, Turning, Jumping, Jumps}
+use Rattle.build.specs.Slots.{slot-inside, slot-length, putAt, length-put, slot-put, slot-kept}
+use Rattle.build.specs.JumpLaws.{turn-jumped}
+
+-- ---- one turn more
+
+module _ (file : List ℕ) (sh : Shape) (n i : ℕ) (r : Standing file sh n i) where
+  abbrev P : Program
+  P = programIn file
+
+  -- R38: what is built from T(i) on is what is built from T(i+1) on, and the turn of instruction i.
+  built-is : built file i ≡ record { tab = turnAt file i .tab; sets = turnAt file i .heads ∷ built file (suc i) .sets }
+  unfolding turn
+  built-is = turn-from P i (omega (arith, r .low, r .count))
+
+  -- A turn only grows the table.
+  turn-grows : length (built file (suc i) .tab) ≤ length (turnAt file i .tab)
+  turn-grows = ext-length (grown-ext (turnHeads-grown (P .shape) i (instrAt file i) (built file (suc i) .tab) _))
+
+  -- A state that is refused stands for what is built from T(i) on, too.
+  pub turn-over : (rows : List ℕ) (s : Table) (heads : List ℕ) → Building file sh n rows s heads (i + 1) → s .refused ≡ true
+      → Building file sh n rows s heads i
+  turn-over rows s heads b e =
+      let z : i + 1 ≡ suc i = omega arith in
+      let longer : length (built file (suc i) .tab) ≤ length (built file i .tab) = rw built-is turn-grows in
+      record {
+        standing = b .standing;
+        high = omega (arith, r .low);
+        heads-lent = b .heads-lent;
+        holds = record {
+          kept = λ f. absurd (no-false (sym f ∙ e));
+          over = λ _. omega (arith, (rw z at (b .holds)) .over e, longer);
+        };
+        slots = λ f. absurd (no-false (sym f ∙ e));
+      }
+
+module _ (file : List ℕ) (sh : Shape) (n i : ℕ) (rows : List ℕ) (s : Table) (numbers : ℕ) (heads made : List ℕ)
+    (w : Turning file sh n i rows s numbers heads made) where
+  abbrev C : ℕ
+  C = cells (shapeOf sh)
+
+  abbrev b : B.Built
+  b = built file (suc i)
+
+  pub place : Standing file sh n i
+  place = standing-at file sh n 0 (w .built-on .standing) i (w .low)
+
+  wf : WellFormed (programIn file)
+  wf = formed file sh n i place
+
+  -- Every T(l) that is built stands.
+  made-on : Made (programIn file) (suc i) b
+  made-on = made-from (programIn file) wf (suc i) (omega (arith, w .low, place .count))
+
+  stands-at : (l : ℕ) → i < l → l < n → Stands C (over (b .tab) (setAt b (suc i) l))
+  stands-at l h k = rw (place .shaped) (made-on .stands l h (omega (arith, place .count)))
+
+  slot-is : (l : ℕ) → i < l → l < n → slot C heads l ≡ setAt b (suc i) l
+  slot-is l h k = w .built-on .slots (w .kept) l h k
+
+  shaped : checkShape old (shapeOf sh) ≡ granted tt
+  shaped = rw (place .shaped) (read-shape old file (programIn file) (place .accepted))
+
+  -- R38: the turn of instruction i, which is x.
+  turn-as : (x : Instr) → instrAt file i ≡ x → turnAt file i ≡ turnHeads (shapeOf sh) i x (b .tab) (setAt b (suc i))
+  turn-as x e =
+      ap (λ z. turnHeads z i (instrAt file i) (b .tab) (setAt b (suc i))) (sym (place .shaped))
+      ∙ ap (λ z. turnHeads (shapeOf sh) i z (b .tab) (setAt b (suc i))) e
+
+  pub slot-ends : (l : ℕ) → l < n → l * C + C ≤ length heads
+  slot-ends l k = omega (arith, slot-inside l n C k, w .built-on .heads-lent)
+
+  -- T(i+1) as the code has it.
+  next-is : (y : List ℕ) → y ≡ slot C heads (i + 1) → suc i < n → y ≡ setAt b (suc i) (suc i)
+  next-is y e k =
+      let z : i + 1 ≡ suc i = omega arith in
+      e ∙ ap (slot C heads) z ∙ slot-is (suc i) (omega arith) k
+
+  -- T(i+1) after heads over a table that has only grown.
+  followed : (y : List ℕ) → y ≡ slot C heads (i + 1) → suc i < n → (X : Heads) → Stands C X → Ext (b .tab) (X .tab)
+      → (rows′ : List ℕ) (s′ : Table) (made′ : List ℕ) → Drawn rows′ s′ made′ X → length made′ ≡ C → length rows′ ≡ length rows
+      → Following (shapeOf sh) y rows′ s′ numbers made′
+  followed y e k X p m rows′ s′ made′ d c size =
+      let q = next-is y e k in
+      record {
+        first = X;
+        drawn = d;
+        stands = p;
+        second = rw q (stands-ext (p .canonical) m (setAt b (suc i) (suc i)) (stands-at (suc i) (omega arith) k));
+        shaped = shaped;
+        count = c;
+        room = rw size (w .numbers-lent);
+      }
+
+  module _ (at c : ℕ) (here : at ≡ bodyAt old file n i) (is : c ≡ getD file at 0) where
+    -- R10: a code below 48 other than END's is that of a plain instruction.
+    plain-at : c < 48 → (c ≡ 10 → ⊥) → (p : Plain) × (instrAt file i ≡ plain p)
+    plain-at h z =
+        let t = tells file sh n i place at here c is in
+        elim (decLt c 11) [
+          | yes k ↦ (aloneOf c, t .lone (omega arith) .1 (omega arith))
+          | no k ↦ elim (decLt c 32) [
+            | yes m ↦ (_, with-value file sh n i place at here c is (omega arith) m)
+            | no m ↦ (onVariable c (getD file (at + 1) 0), with-variable file sh n i place at here c is (omega arith) h _ refl)
+          ]
+        ]
+
+    fine : (p : Plain) → instrAt file i ≡ plain p → Names (vars (shapeOf sh)) p × (suc i < n)
+    fine p x =
+        let f = rw x at (wf .fine i (omega (arith, w .low, place .count))) in
+        (rw (place .shaped) (f .0), omega (arith, f .1, place .count))
+
+    -- R14: after any instruction but END there is a next one, so T(i+1) is there.
+    next-low : (c ≡ 10 → ⊥) → suc i < n
+    next-low z = elim (decLt c 48) [
+      | yes h ↦ (let q = plain-at h z in fine (q .0) (q .1) .1)
+      | no h ↦ (let t = tells file sh n i place at here c is .label (omega arith) in omega (arith, t .2, t .3))
+    ]
+
+    pub next-ends : (c ≡ 10 → ⊥) → (i + 1) * C + C ≤ length heads
+    next-ends z = slot-ends (i + 1) (omega (arith, next-low z))
+
+    -- ---- jumps and calls
+
+    module _ (h : 48 ≤ c) (l : K.Instr) (to : l .0 ≡ numberAt 2 file (at + 1)) where
+      on : (i < l .0) × (l .0 < n)
+      on = later file sh n i place at here c is h l to
+
+      -- T(l) is there to be copied.
+      pub label-ends : (l .0 ≤ 512) × (l .0 * C + C ≤ length heads)
+      label-ends = (omega (arith, on .1, place .most), slot-ends (l .0) (on .1))
+
+      module _ (y : List ℕ) (e : y ≡ slot C heads (i + 1)) (made′ : List ℕ) (copied : made′ ≡ slot C heads (l .0)) where
+        abbrev X : Heads
+        X = over (b .tab) (setAt b (suc i) (l .0))
+
+        drawn : Drawn rows s made′ X
+        drawn = record { holds = w .built-on .holds; same = λ _. copied ∙ slot-is (l .0) (on .0) (on .1) }
+
+        pub jumping : Jumping (shapeOf sh) c y rows s numbers made′
+        jumping = record {
+          following = followed y e (omega (arith, on .0, on .1)) X (stands-at (l .0) (on .0) (on .1)) (ext-refl (b .tab)) rows s made′
+              drawn (ap length copied ∙ slot-length C heads (l .0) (slot-ends (l .0) (on .1))) refl;
+          codes = (h, tells file sh n i place at here c is .label h .0);
+        }
+
+        -- R38: what is left is the turn of instruction i.
+        pub jump-turned : (rows′ : List ℕ) (s′ : Table) (made″ : List ℕ) → Jumps (shapeOf sh) c y rows s made′ rows′ s′ made″
+            → Drawn rows′ s′ made″ (turnAt file i)
+        jump-turned rows′ s′ made″ g =
+            let k : suc i < n = omega (arith, on .0, on .1) in
+            let q = stands-at (suc i) (omega arith) k in
+            rw (turn-as (onLabel c (l .0)) (goes file sh n i place at here c is h l to)
+            ∙ turn-jumped (shapeOf sh) i c (l .0) (b .tab) (setAt b (suc i)) h (jumping .codes .1))
+            (rw (next-is y e k) at (g X drawn (stands-at (l .0) (on .0) (on .1)) (rw (next-is y e k) q)))
+
+    -- ---- the own set, and T(i+1) after it
+
+    module _ (h : c < 48) where
+      pub owning : at < farthest → Owning file sh n i at rows s made
+      owning near = record {
+        standing = place;
+        here = here;
+        near = near;
+        low = rw is at h;
+        opened = record { table = b .tab; canonical = rw (place .shaped) (made-on .canonical); holds = w .built-on .holds };
+        count = w .count;
+        stub = ?;
+      }
+
+      module _ (rows′ : List ℕ) (s′ : Table) (made′ : List ℕ) (g : Owns (shapeOf sh) (ownOf (instrAt file i)) rows s rows′ s′ made′) where
+        owned : (p : Plain) → ownOf (instrAt file i) ≡ p → Drawn rows′ s′ made′ (own (b .tab) (shapeOf sh) p)
+        owned p q = rw q at (g (b .tab) (rw (place .shaped) (made-on .canonical)) (w .built-on .holds))
+
+        -- R38: END's turn is the own set of INIT.
+        pub end-turned : c ≡ 10 → Drawn rows′ s′ made′ (turnAt file i)
+        end-turned z =
+            let x : instrAt file i ≡ END = tells file sh n i place at here c is .lone (omega arith) .2 z in
+            rw (turn-as END x) (owned INIT (ap ownOf x))
+
+        module _ (z : c ≡ 10 → ⊥) where
+          abbrev p : Plain
+          p = plain-at h z .0
+
+          abbrev x : instrAt file i ≡ plain p
+          x = plain-at h z .1
+
+          own-stands : Stands C (own (b .tab) (shapeOf sh) p)
+          own-stands = own-acts (b .tab) (shapeOf sh) (deep file sh n i place) (rw (place .shaped) (made-on .canonical)) p (fine p x .0) .stands
+
+          pub own-following : (y : List ℕ) → y ≡ slot C heads (i + 1) → length made′ ≡ length made → length rows′ ≡ length rows
+              → Following (shapeOf sh) y rows′ s′ numbers made′
+          own-following y e c size =
+              followed y e (fine p x .1) (own (b .tab) (shapeOf sh) p) own-stands (grown-ext (own-grown (b .tab) (shapeOf sh) p)) rows′ s′ made′
+              (owned p (ap ownOf x)) (c ∙ w .count) size
+
+          -- R38: a plain instruction's turn is T(i+1) after its own set.
+          pub plain-turned : (y : List ℕ) → y ≡ slot C heads (i + 1) → (rows″ : List ℕ) (s″ : Table) (made″ : List ℕ) → Follows (shapeOf sh) y rows′ s′ made′ rows″ s″ made″
+              → Drawn rows″ s″ made″ (turnAt file i)
+          plain-turned y e rows″ s″ made″ f =
+              let m = grown-ext (own-grown (b .tab) (shapeOf sh) p) in
+              let q = stands-ext (own-stands .canonical) m (setAt b (suc i) (suc i)) (stands-at (suc i) (omega arith) (fine p x .1)) in
+              rw (turn-as (plain p) x)
+              (rw (next-is y e (fine p x .1)) at (f (own (b .tab) (shapeOf sh) p) (owned p (ap ownOf x)) own-stands (rw (next-is y e (fine p x .1)) q)))
+
+  -- ---- the heads in their slot
+
+  -- R38: with the heads of T(i) in their slot, T(i) and on are built.
+  pub turn-built : (rows′ : List ℕ) (s′ : Table) (made′ : List ℕ) → Drawn rows′ s′ made′ (turnAt file i) → length made′ ≡ C → (k : ℕ)
+      → k ≡ C → (a : ℕ) → a ≡ i * C → Building file sh n rows′ s′ (putAt a k heads made′) i
+  turn-built rows′ s′ made′ d c k e a q =
+      let inside = slot-ends i (w .low) in
+      let is = built-is file sh n i place in
+      rw (e, q) (record {
+        standing = w .built-on .standing;
+        high = omega (arith, w .low);
+        heads-lent = omega (arith, length-put C heads i made′ c inside, w .built-on .heads-lent);
+        holds = rw is (d .holds);
+        slots = λ f l h m. elim (decLt i l) [
+          | yes g ↦
+              let z : l - i ≡ suc (l - suc i) = omega arith in
+              slot-kept C heads i made′ c inside l g ∙ slot-is l g m ∙ rw (is, z)
+          | no g ↦
+              let z : l ≡ i = omega arith in
+              let o : i - i ≡ 0 = omega arith in
+              rw (z, is, o) (slot-put C heads i made′ c inside ∙ d .same f)
+        ];
+      })
