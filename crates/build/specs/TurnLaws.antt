@@ -241,24 +241,38 @@ module _ (file : List ℕ) (sh : Shape) (n i : ℕ) (rows : List ℕ) (s : Table
 
   -- ---- the heads in their slot
 
-  -- R38: with the heads of T(i) in their slot, T(i) and on are built.
-  pub turn-built : (rows′ : List ℕ) (s′ : Table) (made′ : List ℕ) → Drawn rows′ s′ made′ (turnAt file i) → length made′ ≡ C → (k : ℕ)
-      → k ≡ C → (a : ℕ) → a ≡ i * C → Building file sh n rows′ s′ (putAt a k heads made′) i
-  turn-built rows′ s′ made′ d c k e a q =
+  -- R38: with the heads of T(i) in their slot, which begins at a, T(i) and on are built.
+  pub turn-built : (rows′ : List ℕ) (s′ : Table) (made′ : List ℕ) → Drawn rows′ s′ made′ (turnAt file i) → length made′ ≡ length made
+      → (ys : List ℕ) → ys ≡ made′ → (a c : ℕ) → a ≡ i * c → c ≡ C → Building file sh n rows′ s′ (putAt a (a + c - a) heads ys) i
+  turn-built rows′ s′ made′ d size ys same a c e q =
+      let z : a + c - a ≡ C = omega arith in
+      let count : length made′ ≡ C = size ∙ w .count in
       let inside = slot-ends i (w .low) in
       let is = built-is file sh n i place in
-      rw (e, q) (record {
+      rw (z, same, e, q) (record {
         standing = w .built-on .standing;
         high = omega (arith, w .low);
-        heads-lent = omega (arith, length-put C heads i made′ c inside, w .built-on .heads-lent);
+        heads-lent = omega (arith, length-put C heads i made′ count inside, w .built-on .heads-lent);
         holds = rw is (d .holds);
         slots = λ f l h m. elim (decLt i l) [
           | yes g ↦
-              let z : l - i ≡ suc (l - suc i) = omega arith in
-              slot-kept C heads i made′ c inside l g ∙ slot-is l g m ∙ rw (is, z)
+              let y : l - i ≡ suc (l - suc i) = omega arith in
+              slot-kept C heads i made′ count inside l g ∙ slot-is l g m ∙ rw (is, y)
           | no g ↦
-              let z : l ≡ i = omega arith in
+              let y : l ≡ i = omega arith in
               let o : i - i ≡ 0 = omega arith in
-              rw (z, is, o) (slot-put C heads i made′ c inside ∙ d .same f)
+              rw (y, is, o) (slot-put C heads i made′ count inside ∙ d .same f)
         ];
       })
+
+module _ (file : List ℕ) (sh : Shape) (n i : ℕ) (rows : List ℕ) (s : Table) (heads : List ℕ)
+    (b : Building file sh n rows s heads (i + 1)) where
+  -- The instruction whose turn it is.
+  pub due : Standing file sh n i
+  due = standing-at file sh n 0 (b .standing) i (omega (arith, b .high))
+
+  pub turning : s .refused ≡ false → (numbers : ℕ) → room (length rows) ≤ numbers → (made : List ℕ) → length made ≡ cells (shapeOf sh)
+      → Turning file sh n i rows s numbers heads made
+  turning f numbers l made c =
+      let z : i + 1 ≡ suc i = omega arith in
+      record { low = omega (arith, b .high); built-on = rw z at b; kept = f; numbers-lent = l; count = c }

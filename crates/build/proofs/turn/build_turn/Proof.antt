@@ -1,3 +1,8 @@
+use Rattle.build.specs.TurnLaws.{turn-over, due, turning}
+use Rattle.program.specs.Standing.{most-cells}
+use lib.Seq.{length-take-le}
+use native.Mathlib.Omega.{arith}
+use mathlib.Core.Path.{sym, _∙_}
 use borrow.Author.Needs.{needs}
 use Rattle.build.proofs.turn.build_turn.Statement.{statement}
 use Rattle.build.proofs.turn.build_turn.Tie as tie
@@ -8,7 +13,9 @@ use Rattle.build.proofs.turn.turn_into.Reads as turn-into-reads
 
 -- src/turn.rt:181:9
 returns : tie.Need-returns
-returns c = ?
+returns c =
+    let c5 = c .before .before .before .before .before in
+    turn-over _ _ _ _ (due _ _ _ _ _ _ _ (c5 .pre .0)) _ _ _ (c5 .pre .0) (c .if1 .taken)
 
 -- src/turn.rt:184:9
 cells-requires : tie.Need-cells-requires
@@ -16,15 +23,26 @@ cells-requires c κs = search needs
 
 -- src/turn.rt:194:9
 array-borrow-prefix-made : tie.Need-array-borrow-prefix-made
-array-borrow-prefix-made c = ?
+array-borrow-prefix-made c =
+    let c3 = c .before .before .before in
+    let c9 = c3 .before .before .before .before .before .before in
+    omega (arith, most-cells _ _ _ _ (due _ _ _ _ _ _ _ (c9 .pre .0)), c3 .cells .ensures)
 
 -- src/turn.rt:194:9
 slice-aggregate-turn-into : tie.Need-slice-aggregate-turn-into
-slice-aggregate-turn-into c = ?
+slice-aggregate-turn-into c =
+    let c4 = c .before .before .before .before in
+    let c10 = c4 .before .before .before .before .before .before in
+    sym (length-take-le (c4 .cells .result) _ (omega (arith, most-cells _ _ _ _ (due _ _ _ _ _ _ _ (c10 .pre .0)), c4 .cells .ensures)))
 
 -- src/turn.rt:185:5
 turn-into-requires : tie.Need-turn-into-requires
-turn-into-requires c κs = ?
+turn-into-requires c κs =
+    let c4 = c .before .before .before .before in
+    let c5 = c4 .before in
+    let c10 = c5 .before .before .before .before .before in
+    turning _ _ _ _ _ _ _ (c10 .pre .0) (c5 .if1 .left) _ (c10 .pre .1) _
+    (length-take-le (c4 .cells .result) _ (omega (arith, most-cells _ _ _ _ (due _ _ _ _ _ _ _ (c10 .pre .0)), c4 .cells .ensures)) ∙ c4 .cells .ensures)
 
 -- src/turn.rt:166:1
 same-length : tie.Need-same-length

@@ -1,3 +1,9 @@
+use Rattle.build.specs.Turning.{Building}
+use borrow.Author.Needs.{needs}
+use lib.ListN.{length}
+use native.Mathlib.Omega.{arith}
+use mathlib.Core.Path.{_≡_, refl, _∙_}
+use Prim.Native.Nat.{ℕ, _+_, _-_}
 use Rattle.build.proofs.turn.build_turns.Statement.{statement}
 use Rattle.build.proofs.turn.build_turns.Tie as tie
 use Rattle.build.proofs.turn.build_turns.Reads as reads
@@ -5,50 +11,69 @@ use Rattle.build.proofs.turn.build_turns.Lts as lts
 use Rattle.build.proofs.turn.build_turn.Reads as build-turn-reads
 
 abbrev Inv-loop : tie.InvT-loop
-Inv-loop file shape n rows₀ numbers₀ heads₀ table₀ i₀ rows numbers heads table i = ?
+Inv-loop file shape n rows₀ numbers₀ heads₀ table₀ i₀ rows numbers heads table i =
+    Building file shape n rows table heads i × (length rows ≡ length rows₀) × (length numbers ≡ length numbers₀)
+    × (length heads ≡ length heads₀)
 
 abbrev μ-loop : tie.MeasureT-loop
-μ-loop file shape n rows₀ numbers₀ heads₀ table₀ i₀ rows numbers heads table i = ?
+μ-loop file shape n rows₀ numbers₀ heads₀ table₀ i₀ rows numbers heads table i = i
 
 -- src/turn.rt:214:5
 loop-holds : tie.Need-loop-holds Inv-loop μ-loop
-loop-holds c = ?
+loop-holds c = (c .before .before .before .before .pre .0, refl, refl, refl)
 
 -- src/turn.rt:215:9
 sub-i : tie.Need-sub-i Inv-loop μ-loop
-sub-i c = ?
+sub-i c = search needs
 
 -- src/turn.rt:216:50
 cast-t11 : tie.Need-cast-t11 Inv-loop μ-loop
-cast-t11 c = ?
+cast-t11 c =
+    let c1 = c .before in
+    let c6 = c1 .before .before .before .before .before in
+    omega (arith, c1 .loop .inv .0 .high, c6 .pre .0 .standing .most)
 
 -- src/turn.rt:216:9
 build-turn-requires : tie.Need-build-turn-requires Inv-loop μ-loop
-build-turn-requires c κs = ?
+build-turn-requires c κs =
+    let c3 = c .before .before .before in
+    let c4 = c3 .before in
+    let c9 = c4 .before .before .before .before .before in
+    let v = c4 .loop .inv in
+    let z : c4 .loop .i - 1 + 1 ≡ c4 .loop .i = omega (arith, c3 .loop-test .taken) in
+    (rw z (v .0), rw (v .1, v .2) (c9 .pre .1))
 
 -- src/turn.rt:214:5
 loop-less : tie.Need-loop-less Inv-loop μ-loop
-loop-less c = ?
+loop-less c = search needs
 
 -- src/turn.rt:214:5
 loop-again : tie.Need-loop-again Inv-loop μ-loop
-loop-again c = ?
+loop-again c =
+    let c6 = c .before .before .before .before .before .before in
+    let c11 = c6 .before .before .before .before .before in
+    let v = c11 .loop .inv in
+    let k = c6 .build-turn .kept in
+    (c6 .build-turn .ensures, k .1 .1 .1 .1 .0 ∙ v .1, k .1 .1 .1 .1 .1 .1 .0 ∙ v .2, k .1 .1 .1 .1 .1 .1 .1 .0 ∙ v .3)
 
 -- src/turn.rt:199:1
 same-length : tie.Need-same-length Inv-loop μ-loop
-same-length c = ?
+same-length c = c .before .loop .inv .1
 
 -- src/turn.rt:199:1
 same-length-2 : tie.Need-same-length-2 Inv-loop μ-loop
-same-length-2 c = ?
+same-length-2 c = c .before .loop .inv .2
 
 -- src/turn.rt:199:1
 same-length-3 : tie.Need-same-length-3 Inv-loop μ-loop
-same-length-3 c = ?
+same-length-3 c = c .before .loop .inv .3
 
 -- src/turn.rt:199:1
 returns : tie.Need-returns Inv-loop μ-loop
-returns c = ?
+returns c =
+    let c1 = c .before in
+    let z : c1 .loop .i ≡ 0 = omega (arith, c .loop-test .left) in
+    rw z at (c1 .loop .inv .0)
 
 pub build-turns-spec : {M : Type 1} → statement M
 build-turns-spec =

@@ -1,3 +1,7 @@
+use Rattle.build.specs.TurnLaws.{place, slot-ends, turn-built}
+use Rattle.build.specs.Slots.{slot-fits}
+use Rattle.program.specs.Standing.{most-cells}
+use native.Mathlib.Omega.{arith}
 use borrow.Author.Needs.{needs}
 use Rattle.build.proofs.turn.turn_into.Statement.{statement}
 use Rattle.build.proofs.turn.turn_into.Tie as tie
@@ -18,11 +22,17 @@ cells-requires c κs = search needs
 
 -- src/turn.rt:159:9
 slot-of-requires : tie.Need-slot-of-requires
-slot-of-requires c κs = ?
+slot-of-requires c κs =
+    let c17 = c .before .before .before .before .before .before .before .before .before .before .before .before .before .before .before .before .before in
+    let s = place _ _ _ _ _ _ _ _ _ (c17 .pre) in
+    (omega (arith, s .low, s .most), omega (arith, most-cells _ _ _ _ s, c .cells .ensures))
 
 -- src/turn.rt:160:14
 add-to : tie.Need-add-to
-add-to c = ?
+add-to c =
+    let c1 = c .before in
+    let c18 = c1 .before .before .before .before .before .before .before .before .before .before .before .before .before .before .before .before .before in
+    omega (arith, c .slot-of .ensures .1, most-cells _ _ _ _ (place _ _ _ _ _ _ _ _ _ (c18 .pre)), c1 .cells .ensures)
 
 -- src/turn.rt:161:22
 mul-copy-heads : tie.Need-mul-copy-heads
@@ -38,7 +48,11 @@ part-copy-heads-start c = search needs
 
 -- src/turn.rt:161:22
 part-copy-heads-end : tie.Need-part-copy-heads-end
-part-copy-heads-end c = ?
+part-copy-heads-end c =
+    let c1 = c .before in
+    let c2 = c1 .before in
+    let c19 = c2 .before .before .before .before .before .before .before .before .before .before .before .before .before .before .before .before .before in
+    slot-fits _ _ _ _ (c1 .slot-of .ensures .0) (c2 .cells .ensures) _ (slot-ends _ _ _ _ _ _ _ _ _ (c19 .pre) _ (c19 .pre .low))
 
 -- src/turn.rt:161:5
 copy-heads-requires : tie.Need-copy-heads-requires
@@ -62,7 +76,14 @@ same-length-4 c = search needs
 
 -- src/turn.rt:143:1
 returns : tie.Need-returns
-returns c = ?
+returns c =
+    let c2 = c .before .before in
+    let c5 = c2 .before .before .before in
+    let c6 = c5 .before in
+    let c13 = c6 .before .before .before .before .before .before .before in
+    let c23 = c13 .before .before .before .before .before .before .before .before .before .before in
+    turn-built _ _ _ _ _ _ _ _ _ (c23 .pre) _ _ _ (c13 .turn-heads .ensures) (c13 .turn-heads .kept .1 .1 .1 .1 .1 .1 .1 .1 .0) _ (c2 .copy-heads .ensures) _ _
+    (c5 .slot-of .ensures .0) (c6 .cells .ensures)
 
 pub turn-into-spec : {M : Type 1} → statement M
 turn-into-spec =
