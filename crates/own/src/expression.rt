@@ -50,15 +50,21 @@ pub fn add_expression(
         };
     }
     let x = add_expression(file, vars, stop, at + 1, rows, table);
+    let first = x.added;
+    let left = first.row;
+    let middle = first.table;
     if b == 252 {
         return Grown {
-            added: add(rows, x.added.table, Node::Not(x.added.row)),
+            added: add(rows, middle, Node::Not(left)),
             next: x.next,
         };
     }
-    let y = add_expression(file, vars, stop, x.next, rows, x.added.table);
+    let y = add_expression(file, vars, stop, x.next, rows, middle);
+    let second = y.added;
+    let right = second.row;
+    let last = second.table;
     Grown {
-        added: add(rows, y.added.table, Node::Two(b == 253, x.added.row, y.added.row)),
+        added: add(rows, last, Node::Two(b == 253, left, right)),
         next: y.next,
     }
 }

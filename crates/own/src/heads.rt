@@ -150,8 +150,11 @@ pub fn put_heads(shape: Shape, change: Change, row: Row, made: &mut [u16])
         × (change .main .0 < cells (shapeOf shape)) ⌝ }
     ensures { λ _. ⌜ now (made .exit) ≡ changed (shapeOf shape) change (row .0) ⌝ }
 {
-    move_heads(shape, change.stack, made);
+    let stack = change.stack;
+    move_heads(shape, stack, made);
     let source = Row::of_cell(change.source);
-    made[change.target.0 as usize] = source.0;
-    made[change.main.0 as usize] = row.0;
+    let target = change.target.0 as usize;
+    made[target] = source.0;
+    let main = change.main.0 as usize;
+    made[main] = row.0;
 }

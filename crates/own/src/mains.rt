@@ -67,14 +67,18 @@ pub fn row_value(file: &[u8], shape: Shape, code: u8, at: usize, rows: &mut [u64
     ensures { λ r.
         ⌜ ((x : Read Exp) → Reads (now (file .entry)) (vars (shapeOf shape)) (at + 65) (at + 1) x → Made (cells (shapeOf shape)) (now (rows .entry)) table (mainOf (shapeOf shape) (onExpr code (x .got))) r (now (rows .exit))) ⌝ }
 {
-    let y = add_expression(file, shape.vars(), at + 65, at + 1, rows, table);
+    let x = Row::of_cell(shape.flag());
+    let grown = add_expression(file, shape.vars(), at + 65, at + 1, rows, table);
+    let added = grown.added;
+    let y = added.row;
+    let after = added.table;
     if code == 17 {
-        return add(rows, y.added.table, Node::Two(true, Row::of_cell(shape.flag()), y.added.row));
+        return add(rows, after, Node::Two(true, x, y));
     }
     if code == 18 {
-        return add(rows, y.added.table, Node::Two(false, Row::of_cell(shape.flag()), y.added.row));
+        return add(rows, after, Node::Two(false, x, y));
     }
-    y.added
+    added
 }
 
 // R18: adds the main row of an instruction that takes the variable b.
@@ -96,9 +100,13 @@ pub fn row_variable(shape: Shape, code: u8, b: Cell, rows: &mut [u64], table: Ta
         return add(rows, table, Node::Two(false, x, y));
     }
     if code == 35 {
-        let not = add(rows, table, Node::Not(y));
-        return add(rows, not.table, Node::Two(true, x, not.row));
+        let added = add(rows, table, Node::Not(y));
+        let not = added.row;
+        let after = added.table;
+        return add(rows, after, Node::Two(true, x, not));
     }
-    let not = add(rows, table, Node::Not(x));
-    add(rows, not.table, Node::Two(true, not.row, y))
+    let added = add(rows, table, Node::Not(x));
+    let not = added.row;
+    let after = added.table;
+    add(rows, after, Node::Two(true, not, y))
 }

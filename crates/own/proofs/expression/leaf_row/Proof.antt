@@ -6,23 +6,18 @@ use Rattle.own.proofs.expression.leaf_row.Lts as lts
 use Rattle.base.proofs.kinds.Cell.of_byte.Reads as of-byte-reads
 use Rattle.base.proofs.kinds.Row.of_cell.Reads as of-cell-reads
 
--- src/expression.rt:24:29
 of-byte-requires : tie.Need-of-byte-requires
 of-byte-requires c κs = search needs
 
--- src/expression.rt:24:9
 of-cell-requires : tie.Need-of-cell-requires
 of-cell-requires c κs = search needs
 
--- src/expression.rt:24:9
 returns : tie.Need-returns
 returns c = ?
 
--- src/expression.rt:26:9
 sub-t5 : tie.Need-sub-t5
 sub-t5 c = search needs
 
--- src/expression.rt:19:1
 returns-2 : tie.Need-returns-2
 returns-2 c = ?
 

@@ -8,31 +8,31 @@ use Rattle.own.proofs.heads.change_of.Reads as change-of-reads
 
 -- src/heads.rt:49:9
 flag-requires : tie.Need-flag-requires
-flag-requires c κs = search needs
+flag-requires c κs = ?
 
 -- src/heads.rt:50:18
 add-t5 : tie.Need-add-t5
-add-t5 c = search needs
+add-t5 c = ?
 
 -- src/heads.rt:52:19
 change-of-requires : tie.Need-change-of-requires
-change-of-requires c κs = search needs
+change-of-requires c κs = ?
 
 -- src/heads.rt:53:18
 change-of-requires-2 : tie.Need-change-of-requires-2
-change-of-requires-2 c κs = search needs
+change-of-requires-2 c κs = ?
 
 -- src/heads.rt:64:26
 add-t11 : tie.Need-add-t11
-add-t11 c = search needs
+add-t11 c = ?
 
 -- src/heads.rt:54:18
 change-of-requires-3 : tie.Need-change-of-requires-3
-change-of-requires-3 c κs = search needs
+change-of-requires-3 c κs = ?
 
 -- src/heads.rt:67:14
 change-of-requires-4 : tie.Need-change-of-requires-4
-change-of-requires-4 c κs = search needs
+change-of-requires-4 c κs = ?
 
 -- src/heads.rt:44:1
 returns : tie.Need-returns

@@ -8,15 +8,15 @@ use Rattle.own.proofs.heads.change_of.Reads as change-of-reads
 
 -- src/heads.rt:79:9
 flag-requires : tie.Need-flag-requires
-flag-requires c κs = search needs
+flag-requires c κs = ?
 
 -- src/heads.rt:81:45
 add-t6 : tie.Need-add-t6
-add-t6 c = search needs
+add-t6 c = ?
 
 -- src/heads.rt:81:9
 change-of-requires : tie.Need-change-of-requires
-change-of-requires c κs = search needs
+change-of-requires c κs = ?
 
 -- src/heads.rt:81:9
 returns : tie.Need-returns
@@ -24,7 +24,7 @@ returns c = ?
 
 -- src/heads.rt:83:5
 change-of-requires-2 : tie.Need-change-of-requires-2
-change-of-requires-2 c κs = search needs
+change-of-requires-2 c κs = ?
 
 -- src/heads.rt:74:1
 returns-2 : tie.Need-returns-2

@@ -7,7 +7,7 @@ use Rattle.base.proofs.shape.Shape.flag.Reads as flag-reads
 
 -- src/heads.rt:90:9
 flag-requires : tie.Need-flag-requires
-flag-requires c κs = search needs
+flag-requires c κs = ?
 
 -- src/heads.rt:85:1
 returns : tie.Need-returns

@@ -9,15 +9,15 @@ use Rattle.own.proofs.heads.row_after.Reads as row-after-reads
 
 -- src/heads.rt:120:8
 cast-if1 : tie.Need-cast-if1
-cast-if1 c = search needs
+cast-if1 c = ?
 
 -- src/heads.rt:120:24
 vars-requires : tie.Need-vars-requires
-vars-requires c κs = search needs
+vars-requires c κs = ?
 
 -- src/heads.rt:121:9
 of-cell-requires : tie.Need-of-cell-requires
-of-cell-requires c κs = search needs
+of-cell-requires c κs = ?
 
 -- src/heads.rt:121:9
 returns : tie.Need-returns
@@ -25,35 +25,35 @@ returns c = ?
 
 -- src/heads.rt:124:23
 enum-told : tie.Need-enum-told
-enum-told c = search needs
+enum-told c = ?
 
 -- src/heads.rt:124:23
 of-cell-requires-2 : tie.Need-of-cell-requires-2
-of-cell-requires-2 c κs = search needs
+of-cell-requires-2 c κs = ?
 
 -- src/heads.rt:125:43
 enum-told-2 : tie.Need-enum-told-2
-enum-told-2 c = search needs
+enum-told-2 c = ?
 
 -- src/heads.rt:125:43
 sub-t8 : tie.Need-sub-t8
-sub-t8 c = search needs
+sub-t8 c = ?
 
 -- src/heads.rt:125:25
 of-cell-requires-3 : tie.Need-of-cell-requires-3
-of-cell-requires-3 c κs = search needs
+of-cell-requires-3 c κs = ?
 
 -- src/heads.rt:126:25
 enum-told-3 : tie.Need-enum-told-3
-enum-told-3 c = search needs
+enum-told-3 c = ?
 
 -- src/heads.rt:126:25
 row-after-requires : tie.Need-row-after-requires
-row-after-requires c κs = search needs
+row-after-requires c κs = ?
 
 -- src/heads.rt:127:24
 enum-told-4 : tie.Need-enum-told-4
-enum-told-4 c = search needs
+enum-told-4 c = ?
 
 -- src/heads.rt:115:1
 returns-2 : tie.Need-returns-2

@@ -8,23 +8,23 @@ use Rattle.base.proofs.shape.Shape.cells.Reads as cells-reads
 
 -- src/heads.rt:108:8
 cast-if1 : tie.Need-cast-if1
-cast-if1 c = search needs
+cast-if1 c = ?
 
 -- src/heads.rt:108:8
 add-if1 : tie.Need-add-if1
-add-if1 c = search needs
+add-if1 c = ?
 
 -- src/heads.rt:108:27
 cells-requires : tie.Need-cells-requires
-cells-requires c κs = search needs
+cells-requires c κs = ?
 
 -- src/heads.rt:109:34
 add-t7 : tie.Need-add-t7
-add-t7 c = search needs
+add-t7 c = ?
 
 -- src/heads.rt:109:9
 of-cell-requires : tie.Need-of-cell-requires
-of-cell-requires c κs = search needs
+of-cell-requires c κs = ?
 
 -- src/heads.rt:109:9
 returns : tie.Need-returns

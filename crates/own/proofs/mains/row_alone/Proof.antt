@@ -10,11 +10,11 @@ use Rattle.rows.proofs.table.add.Reads as add-reads
 
 -- src/mains.rt:44:9
 flag-requires : tie.Need-flag-requires
-flag-requires c κs = search needs
+flag-requires c κs = ?
 
 -- src/mains.rt:45:9
 of-cell-requires : tie.Need-of-cell-requires
-of-cell-requires c κs = search needs
+of-cell-requires c κs = ?
 
 -- src/mains.rt:47:9
 add-requires : tie.Need-add-requires
@@ -22,7 +22,7 @@ add-requires c κs = ?
 
 -- src/mains.rt:47:9
 same-length : tie.Need-same-length
-same-length c = search needs
+same-length c = ?
 
 -- src/mains.rt:47:9
 returns : tie.Need-returns
@@ -30,11 +30,11 @@ returns c = ?
 
 -- src/mains.rt:49:31
 add-t12 : tie.Need-add-t12
-add-t12 c = search needs
+add-t12 c = ?
 
 -- src/mains.rt:49:9
 of-cell-requires-2 : tie.Need-of-cell-requires-2
-of-cell-requires-2 c κs = search needs
+of-cell-requires-2 c κs = ?
 
 -- src/mains.rt:51:9
 add-requires-2 : tie.Need-add-requires-2
@@ -42,7 +42,7 @@ add-requires-2 c κs = ?
 
 -- src/mains.rt:51:9
 same-length-2 : tie.Need-same-length-2
-same-length-2 c = search needs
+same-length-2 c = ?
 
 -- src/mains.rt:51:9
 returns-2 : tie.Need-returns-2
@@ -54,7 +54,7 @@ add-requires-3 c κs = ?
 
 -- src/mains.rt:54:9
 same-length-3 : tie.Need-same-length-3
-same-length-3 c = search needs
+same-length-3 c = ?
 
 -- src/mains.rt:54:9
 returns-3 : tie.Need-returns-3
@@ -62,7 +62,7 @@ returns-3 c = ?
 
 -- src/mains.rt:57:14
 row-moved-requires : tie.Need-row-moved-requires
-row-moved-requires c κs = search needs
+row-moved-requires c κs = ?
 
 -- src/mains.rt:38:1
 returns-4 : tie.Need-returns-4

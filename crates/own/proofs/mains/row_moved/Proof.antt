@@ -8,27 +8,27 @@ use Rattle.base.proofs.shape.Shape.flag.Reads as flag-reads
 
 -- src/mains.rt:28:9
 flag-requires : tie.Need-flag-requires
-flag-requires c κs = search needs
+flag-requires c κs = ?
 
 -- src/mains.rt:31:18
 of-cell-requires : tie.Need-of-cell-requires
-of-cell-requires c κs = search needs
+of-cell-requires c κs = ?
 
 -- src/mains.rt:32:32
 add-t5 : tie.Need-add-t5
-add-t5 c = search needs
+add-t5 c = ?
 
 -- src/mains.rt:32:14
 of-cell-requires-2 : tie.Need-of-cell-requires-2
-of-cell-requires-2 c κs = search needs
+of-cell-requires-2 c κs = ?
 
 -- src/mains.rt:33:32
 add-t7 : tie.Need-add-t7
-add-t7 c = search needs
+add-t7 c = ?
 
 -- src/mains.rt:33:14
 of-cell-requires-3 : tie.Need-of-cell-requires-3
-of-cell-requires-3 c κs = search needs
+of-cell-requires-3 c κs = ?
 
 -- src/mains.rt:23:1
 returns : tie.Need-returns
