@@ -13,6 +13,7 @@ use Rattle.rules.specs.Instr.{put, keep, stack, e, popped, effect}
 use Rattle.rules.specs.Rows.{rowOfCell}
 use Rattle.laws.specs.Own.{simpleRow}
 use Rattle.base.specs.declared.shape.Shape.{Shape}
+use Rattle.base.specs.declared.kinds.Cell.{Cell}
 use Rattle.base.specs.Answers.{shapeOf}
 use Rattle.own.specs.declared.heads.Move.{Move}
 use Rattle.own.specs.declared.heads.Move.the-variants.{Kept, Pushed, Popped, Reset}
@@ -67,6 +68,10 @@ restBy sh x = put (x .target .0) (cell (x .source .0)) (movedBy sh (x .stack))
 -- R37: the heads by a change, with the row r of the main cell.
 abbrev pub changed : R.Shape → Change → ℕ → List ℕ
 changed sh x r = set (set (movedHeads sh (x .stack)) (x .target .0) (rowOfCell (x .source .0))) (x .main .0) r
+
+-- R16, R19: the change x is a move and a main cell alone.
+abbrev pub One : Change → Move → Cell → Type 0
+One x m k = (x .stack ≡ m) × (x .source ≡ k) × (x .target ≡ k) × (x .main ≡ k)
 
 -- R16: x is what p changes.
 pub record Changes (sh : R.Shape) (p : Plain) (x : Change) : Type 0 where

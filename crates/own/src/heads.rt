@@ -11,7 +11,7 @@ ghost use Rattle.rules.specs.Expr.{Exp};
 ghost use Rattle.program.specs.Codes.{aloneOf, onExpr, onVariable};
 ghost use Rattle.laws.specs.Own.{simpleRow};
 ghost use Rattle.own.specs.declared.heads.Move.the-variants.{Popped};
-ghost use Rattle.own.specs.Changes.{movedBy, movedHeads, Inside, Changes, changed};
+ghost use Rattle.own.specs.Changes.{movedBy, movedHeads, Inside, One, Changes, changed};
 
 // R16 to R19: what becomes of the stack: each cell is kept, gets what the cell before it has, what the cell after it has, or 0.
 pub enum Move {
@@ -32,7 +32,7 @@ pub struct Change {
 
 // R16, R19: the change by a move of the stack and the main cell alone.
 fn change_of(stack: Move, main: Cell) -> Change
-    ensures { λ r. ⌜ (r .stack ≡ stack) × (r .source ≡ main) × (r .target ≡ main) × (r .main ≡ main) ⌝ }
+    ensures { λ r. ⌜ One r stack main ⌝ }
 {
     Change {
         stack: stack,
@@ -53,7 +53,6 @@ pub fn change_alone(shape: Shape, code: u8) -> Change
     match code {
         0 | 10 => change_of(Move::Reset, f),
         4 | 7 => change_of(Move::Pushed, e),
-        5 | 6 => change_of(Move::Popped, f),
         8 => Change {
             stack: Move::Kept,
             source: f,
@@ -66,7 +65,13 @@ pub fn change_alone(shape: Shape, code: u8) -> Change
             target: Cell(f.0 + 2),
             main: e,
         },
-        _ => change_of(Move::Kept, f),
+        _ => {
+            if code < 4 {
+                change_of(Move::Kept, f)
+            } else {
+                change_of(Move::Popped, f)
+            }
+        }
     }
 }
 
