@@ -3,21 +3,26 @@ use Prim.Native.Nat.{ℕ, zero, suc, _+_, _-_, _≤_, _<_}
 use mathlib.Core.Path.{_≡_, refl, sym, ap, _∙_}
 use mathlib.Core.Bool.{Bool, true, false, cond}
 use mathlib.Core.Logic.{_⊎_, inl, inr}
+use mathlib.Core.List.{List}
 use native.Mathlib.Omega.{arith}
 use native.Mathlib.Decide.{decLt}
+use lib.ListN.{length, set, length-map}
 use lib.Dec.{eqb, ltb}
 use borrow.Author.Tests.{lt-ltb, le-ltb, eq-eqb, ne-eqb}
+use Rattle.rules.specs.Lists.{from}
 use Rattle.rules.specs.Shape.{Shape, vars, flag, cells}
 use Rattle.rules.specs.Expr.{Exp, con, cell}
 use Rattle.rules.specs.Instr.{Plain, INIT, NOT, TAND, TOR, PUSH, POP, DROP, DUP, FSWP, ESWP, LOAD, AND, OR, EPUSH, STORE, SET, RES, REDGE, FEDGE}
 use Rattle.rules.specs.Instr.{put, keep, stack, e, pushed, popped, effect}
+use Rattle.laws.specs.Lists.{length-from, getD-map-from}
 use Rattle.laws.specs.Own.{Simple, simpleRow}
 use Rattle.base.specs.declared.kinds.Cell.{Cell}
+use Rattle.storage.specs.Moves.{Replacing, replacing-more, replacing-whole}
 use Rattle.program.specs.Codes.{aloneOf, onExpr, onVariable}
 use Rattle.own.specs.declared.heads.Move.{Move}
 use Rattle.own.specs.declared.heads.Move.the-variants.{Kept, Pushed, Popped, Reset}
 use Rattle.own.specs.declared.heads.Change.{Change}
-use Rattle.own.specs.Changes.{placeOf, movedBy, restBy, One, Changes}
+use Rattle.own.specs.Changes.{placeOf, movedBy, movedHeads, restBy, changed, One, Changes}
 
 -- ---- the parts of an effect at a cell
 
@@ -77,6 +82,11 @@ unfolding put
 rest-simple sh x c = cond-simple (eqb c (x .target .0)) _ _ tt (moved-simple sh (x .stack) c)
 
 -- ---- changes by their code
+
+-- R19: the codes of POP and DROP.
+pub pops : (code : ℕ) → 4 ≤ code → code ≤ 10 → (code ≡ 4 → ⊥) → (code ≡ 7 → ⊥) → (code ≡ 8 → ⊥) → (code ≡ 9 → ⊥) → (code ≡ 10 → ⊥)
+    → (code ≡ 5) ⊎ (code ≡ 6)
+pops code h l a b c d g = elim (decLt code 6) [ yes k ↦ inl (omega arith) | no k ↦ inr (omega arith) ]
 
 module _ (sh : Shape) (d : 2 ≤ sh .depth) where
   -- A move and the main cell.
@@ -205,12 +215,15 @@ module _ (sh : Shape) (d : 2 ≤ sh .depth) where
 -- ---- heads by their move
 
 module _ (sh : Shape) (c : ℕ) where
-  pub head-low : (m : Move) → c ≤ flag sh → suc (suc c) ≡ simpleRow (movedBy sh m c)
+  pub head-kept : 2 + c ≡ simpleRow (movedBy sh Kept c)
+  head-kept = omega arith
+
+  pub head-low : (m : Move) → c ≤ flag sh → 2 + c ≡ simpleRow (movedBy sh m c)
   unfolding popped
-  head-low Kept h = refl
-  head-low Pushed h = ap simpleRow (sym (stack-below sh _ c h))
-  head-low Popped h = ap simpleRow (sym (stack-below sh _ c h))
-  head-low Reset h = ap simpleRow (sym (stack-below sh _ c h))
+  head-low Kept h = head-kept
+  head-low Pushed h = head-kept ∙ ap simpleRow (sym (stack-below sh _ c h))
+  head-low Popped h = head-kept ∙ ap simpleRow (sym (stack-below sh _ c h))
+  head-low Reset h = head-kept ∙ ap simpleRow (sym (stack-below sh _ c h))
 
   module _ (l : flag sh < c) where
     pub head-pushed : 2 + (c - 1) ≡ simpleRow (movedBy sh Pushed c)
@@ -230,3 +243,25 @@ module _ (sh : Shape) (c : ℕ) where
     head-last h k =
         let q : c - flag sh ≡ sh .depth = omega arith in
         rw (stack-at sh _ c l, eq-eqb (c - flag sh) (sh .depth) q) refl
+
+-- The loop that puts them: one head more a turn.
+module _ (sh : Shape) (m : Move) (d : List ℕ) (size : length d ≡ cells sh) where
+  moved-length : length (movedHeads sh m) ≡ cells sh
+  moved-length = length-map (from 0 (cells sh)) _ ∙ length-from 0 (cells sh)
+
+  pub heads-more : (u : List ℕ) (c v : ℕ) → Replacing d 0 (movedHeads sh m) u c → c < length u → v ≡ simpleRow (movedBy sh m c)
+      → Replacing d 0 (movedHeads sh m) (set u c v) (c + 1)
+  heads-more u c v r l q =
+      let z : c - 0 ≡ c = omega arith in
+      replacing-more r (omega (arith, r .size)) (omega (arith, moved-length))
+      (q ∙ rw z (sym (getD-map-from _ 0 (cells sh) c (omega (arith, r .size)))))
+
+  pub heads-all : (u : List ℕ) (c : ℕ) → Replacing d 0 (movedHeads sh m) u c → length u ≤ c → u ≡ movedHeads sh m
+  heads-all u c r l = replacing-whole r (omega (arith, r .size)) (omega (arith, moved-length))
+
+-- Then the cell that gets what another has, and the main cell.
+pub put-changed : (sh : Shape) (x : Change) (d : List ℕ) (v r : ℕ) → d ≡ movedHeads sh (x .stack) → v ≡ 2 + x .source .0
+    → set (set d (x .target .0) v) (x .main .0) r ≡ changed sh x r
+put-changed sh x d v r e q =
+    let z : v ≡ suc (suc (x .source .0)) = omega arith in
+    rw (e, z)

@@ -1,3 +1,8 @@
+use Rattle.own.specs.ChangeLaws.{change-epush, change-load}
+use mathlib.Core.Path.{ap}
+use Prim.Native.Nat.{_+_}
+use Rattle.base.specs.Answers.{shapeOf}
+use native.Mathlib.Omega.{arith}
 use borrow.Author.Needs.{needs}
 use Rattle.own.proofs.heads.change_value.Statement.{statement}
 use Rattle.own.proofs.heads.change_value.Tie as tie
@@ -6,29 +11,29 @@ use Rattle.own.proofs.heads.change_value.Lts as lts
 use Rattle.base.proofs.shape.Shape.flag.Reads as flag-reads
 use Rattle.own.proofs.heads.change_of.Reads as change-of-reads
 
--- src/heads.rt:79:9
 flag-requires : tie.Need-flag-requires
-flag-requires c κs = ?
+flag-requires c κs = omega (arith, c .pre .0 .most)
 
--- src/heads.rt:81:45
 add-t6 : tie.Need-add-t6
-add-t6 c = ?
+add-t6 c =
+    let s = c .before .before .before in
+    omega (arith, s .pre .0 .most, c .before .before .flag .ensures)
 
--- src/heads.rt:81:9
 change-of-requires : tie.Need-change-of-requires
-change-of-requires c κs = ?
+change-of-requires c κs = search needs
 
--- src/heads.rt:81:9
 returns : tie.Need-returns
-returns c = ?
+returns c =
+    let s = c .before .before .before .before in
+    change-epush _ (s .pre .0 .deep) _ _ _ (ap (λ n. n + 1) (c .before .before .before .flag .ensures)) (c .change-of .ensures) (c .before .before .if1 .taken)
 
--- src/heads.rt:83:5
 change-of-requires-2 : tie.Need-change-of-requires-2
-change-of-requires-2 c κs = ?
+change-of-requires-2 c κs = search needs
 
--- src/heads.rt:74:1
 returns-2 : tie.Need-returns-2
-returns-2 c = ?
+returns-2 c =
+    let s = c .before .before .before in
+    change-load _ (s .pre .0 .deep) _ _ _ (c .before .before .flag .ensures) (c .change-of2 .ensures) (s .pre .1 .0) (omega (arith, s .pre .1 .1, c .before .if1 .left))
 
 pub change-value-spec : {M : Type 1} → statement M
 change-value-spec =

@@ -1,3 +1,5 @@
+use Rattle.own.specs.ChangeLaws.{change-store, change-edge}
+use native.Mathlib.Omega.{arith}
 use borrow.Author.Needs.{needs}
 use Rattle.own.proofs.heads.change_variable.Statement.{statement}
 use Rattle.own.proofs.heads.change_variable.Tie as tie
@@ -5,17 +7,18 @@ use Rattle.own.proofs.heads.change_variable.Reads as reads
 use Rattle.own.proofs.heads.change_variable.Lts as lts
 use Rattle.base.proofs.shape.Shape.flag.Reads as flag-reads
 
--- src/heads.rt:90:9
 flag-requires : tie.Need-flag-requires
-flag-requires c κs = ?
+flag-requires c κs = omega (arith, c .pre .0 .most)
 
--- src/heads.rt:85:1
 returns : tie.Need-returns
-returns c = ?
+returns c =
+    let s = c .before .before in
+    change-store _ (s .pre .0 .deep) _ _ _ (c .before .flag .ensures) (s .pre .1 .2) (s .pre .1 .0) (c .if1 .taken)
 
--- src/heads.rt:85:1
 returns-2 : tie.Need-returns-2
-returns-2 c = ?
+returns-2 c =
+    let s = c .before .before in
+    change-edge _ (s .pre .0 .deep) _ _ _ (c .before .flag .ensures) (s .pre .1 .2) (c .if1 .left) (s .pre .1 .1)
 
 pub change-variable-spec : {M : Type 1} → statement M
 change-variable-spec = tie.close (tie.spec flag-requires returns returns-2)

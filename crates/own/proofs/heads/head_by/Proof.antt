@@ -1,3 +1,7 @@
+use Rattle.own.specs.ChangeLaws.{head-kept, head-low, head-pushed, head-reset}
+use mathlib.Core.Path.{_∙_}
+use Rattle.base.specs.Answers.{shapeOf}
+use native.Mathlib.Omega.{arith}
 use borrow.Author.Needs.{needs}
 use Rattle.own.proofs.heads.head_by.Statement.{statement}
 use Rattle.own.proofs.heads.head_by.Tie as tie
@@ -7,69 +11,73 @@ use Rattle.base.proofs.kinds.Row.of_cell.Reads as of-cell-reads
 use Rattle.base.proofs.shape.Shape.vars.Reads as vars-reads
 use Rattle.own.proofs.heads.row_after.Reads as row-after-reads
 
--- src/heads.rt:120:8
 cast-if1 : tie.Need-cast-if1
-cast-if1 c = ?
+cast-if1 c = search needs
 
--- src/heads.rt:120:24
 vars-requires : tie.Need-vars-requires
-vars-requires c κs = ?
+vars-requires c κs = search needs
 
--- src/heads.rt:121:9
 of-cell-requires : tie.Need-of-cell-requires
-of-cell-requires c κs = ?
+of-cell-requires c κs =
+    let s = c .before .before .before in
+    omega (arith, s .pre .0 .most, s .pre .1)
 
--- src/heads.rt:121:9
 returns : tie.Need-returns
-returns c = ?
+returns c =
+    let s = c .before .before .before .before in
+    (c .of-cell .ensures) ∙ head-low (shapeOf (s .args .shape)) _ (s .args .stack) (omega (arith, c .before .if1 .taken, c .before .before .vars .ensures))
 
--- src/heads.rt:124:23
 enum-told : tie.Need-enum-told
-enum-told c = ?
+enum-told c = search needs
 
--- src/heads.rt:124:23
 of-cell-requires-2 : tie.Need-of-cell-requires-2
-of-cell-requires-2 c κs = ?
+of-cell-requires-2 c κs =
+    let s = c .before .before .before .before .before in
+    omega (arith, s .pre .0 .most, s .pre .1)
 
--- src/heads.rt:125:43
 enum-told-2 : tie.Need-enum-told-2
-enum-told-2 c = ?
+enum-told-2 c = search needs
 
--- src/heads.rt:125:43
 sub-t8 : tie.Need-sub-t8
-sub-t8 c = ?
+sub-t8 c =
+    let s = c .before .before .before .before .before .before in
+    omega (arith, c .before .before .before .if1 .left, c .before .before .before .before .vars .ensures)
 
--- src/heads.rt:125:25
 of-cell-requires-3 : tie.Need-of-cell-requires-3
-of-cell-requires-3 c κs = ?
+of-cell-requires-3 c κs =
+    let s = c .before .before .before .before .before .before in
+    omega (arith, s .pre .0 .most, s .pre .1)
 
--- src/heads.rt:126:25
 enum-told-3 : tie.Need-enum-told-3
-enum-told-3 c = ?
+enum-told-3 c = search needs
 
--- src/heads.rt:126:25
 row-after-requires : tie.Need-row-after-requires
-row-after-requires c κs = ?
+row-after-requires c κs =
+    let s = c .before .before .before .before .before in
+    (s .pre .0, (omega (arith, c .before .before .if1 .left, c .before .before .before .vars .ensures), s .pre .1))
 
--- src/heads.rt:127:24
 enum-told-4 : tie.Need-enum-told-4
-enum-told-4 c = ?
+enum-told-4 c = search needs
 
--- src/heads.rt:115:1
 returns-2 : tie.Need-returns-2
-returns-2 c = ?
+returns-2 c =
+    let s = c .before .before .before .before .before .before in
+    rw (c .before .enum-told .given .1) ((c .of-cell2 .ensures) ∙ head-kept (shapeOf (s .args .shape)) _)
 
--- src/heads.rt:115:1
 returns-3 : tie.Need-returns-3
-returns-3 c = ?
+returns-3 c =
+    let s = c .before .before .before .before .before .before .before in
+    rw (c .before .before .enum-told2 .given .1) ((c .of-cell3 .ensures) ∙ head-pushed (shapeOf (s .args .shape)) _ (omega (arith, c .before .before .before .before .if1 .left, c .before .before .before .before .before .vars .ensures)))
 
--- src/heads.rt:115:1
 returns-4 : tie.Need-returns-4
-returns-4 c = ?
+returns-4 c =
+    let s = c .before .before .before .before .before .before in
+    rw (c .before .enum-told3 .given .1) (c .row-after .ensures)
 
--- src/heads.rt:115:1
 returns-5 : tie.Need-returns-5
-returns-5 c = ?
+returns-5 c =
+    let s = c .before .before .before .before .before in
+    rw (c .enum-told4 .given .1) (head-reset (shapeOf (s .args .shape)) _ (omega (arith, c .before .before .if1 .left, c .before .before .before .vars .ensures)))
 
 pub head-by-spec : {M : Type 1} → statement M
 head-by-spec =

@@ -1,3 +1,7 @@
+use lib.ListN.{length-set}
+use Rattle.own.specs.ChangeLaws.{put-changed}
+use Rattle.base.specs.Answers.{shapeOf}
+use native.Mathlib.Omega.{arith}
 use borrow.Author.Needs.{needs}
 use Rattle.own.proofs.heads.put_heads.Statement.{statement}
 use Rattle.own.proofs.heads.put_heads.Tie as tie
@@ -6,45 +10,45 @@ use Rattle.own.proofs.heads.put_heads.Lts as lts
 use Rattle.base.proofs.kinds.Row.of_cell.Reads as of-cell-reads
 use Rattle.own.proofs.heads.move_heads.Reads as move-heads-reads
 
--- src/heads.rt:154:5
 move-heads-requires : tie.Need-move-heads-requires
-move-heads-requires c κs = ?
+move-heads-requires c κs =
+    let s = c .before .before in
+    (s .pre .0, s .pre .1 .0)
 
--- src/heads.rt:155:9
 of-cell-requires : tie.Need-of-cell-requires
-of-cell-requires c κs = ?
+of-cell-requires c κs =
+    let s = c .before .before .before .before .before in
+    omega (arith, s .pre .0 .most, s .pre .1 .1 .0)
 
--- src/heads.rt:156:18
 cast-target : tie.Need-cast-target
-cast-target c = ?
+cast-target c = search needs
 
--- src/heads.rt:157:5
 mul-made : tie.Need-mul-made
-mul-made c = ?
+mul-made c = search needs
 
--- src/heads.rt:157:5
 slice-write-made : tie.Need-slice-write-made
-slice-write-made c = ?
+slice-write-made c =
+    let s = c .before .before .before .before .before .before .before in
+    omega (arith, c .before .before .before .before .move-heads .kept .1 .1 .0, s .pre .1 .0, s .pre .1 .1 .1)
 
--- src/heads.rt:158:16
 cast-main : tie.Need-cast-main
-cast-main c = ?
+cast-main c = search needs
 
--- src/heads.rt:159:5
 mul-made-2 : tie.Need-mul-made-2
-mul-made-2 c = ?
+mul-made-2 c = search needs
 
--- src/heads.rt:159:5
 slice-write-made-2 : tie.Need-slice-write-made-2
-slice-write-made-2 c = ?
+slice-write-made-2 c =
+    let s = c .before .before .before .before .before .before .before .before in
+    rw length-set (omega (arith, c .before .before .before .before .before .move-heads .kept .1 .1 .0, s .pre .1 .0, s .pre .1 .1 .2))
 
--- src/heads.rt:146:1
 same-length : tie.Need-same-length
-same-length c = ?
+same-length c = search needs
 
--- src/heads.rt:146:1
 returns : tie.Need-returns
-returns c = ?
+returns c =
+    let s = c .before .before .before .before .before .before .before .before in
+    put-changed (shapeOf (s .args .shape)) (s .args .change) _ _ _ (c .before .before .before .before .before .move-heads .ensures) (c .before .before .of-cell .ensures)
 
 pub put-heads-spec : {M : Type 1} → statement M
 put-heads-spec =

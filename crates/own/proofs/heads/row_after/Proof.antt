@@ -1,3 +1,7 @@
+use Rattle.own.specs.ChangeLaws.{head-popped, head-last}
+use mathlib.Core.Path.{_∙_}
+use Rattle.base.specs.Answers.{shapeOf}
+use native.Mathlib.Omega.{arith}
 use borrow.Author.Needs.{needs}
 use Rattle.own.proofs.heads.row_after.Statement.{statement}
 use Rattle.own.proofs.heads.row_after.Tie as tie
@@ -6,33 +10,34 @@ use Rattle.own.proofs.heads.row_after.Lts as lts
 use Rattle.base.proofs.kinds.Row.of_cell.Reads as of-cell-reads
 use Rattle.base.proofs.shape.Shape.cells.Reads as cells-reads
 
--- src/heads.rt:108:8
 cast-if1 : tie.Need-cast-if1
-cast-if1 c = ?
+cast-if1 c = search needs
 
--- src/heads.rt:108:8
 add-if1 : tie.Need-add-if1
-add-if1 c = ?
+add-if1 c = search needs
 
--- src/heads.rt:108:27
 cells-requires : tie.Need-cells-requires
-cells-requires c κs = ?
+cells-requires c κs = search needs
 
--- src/heads.rt:109:34
 add-t7 : tie.Need-add-t7
-add-t7 c = ?
+add-t7 c =
+    let s = c .before .before .before .before in
+    omega (arith, s .pre .0 .most, s .pre .1 .1)
 
--- src/heads.rt:109:9
 of-cell-requires : tie.Need-of-cell-requires
-of-cell-requires c κs = ?
+of-cell-requires c κs =
+    let s = c .before .before .before .before in
+    omega (arith, s .pre .0 .most, s .pre .1 .1)
 
--- src/heads.rt:109:9
 returns : tie.Need-returns
-returns c = ?
+returns c =
+    let s = c .before .before .before .before .before in
+    (c .of-cell .ensures) ∙ head-popped (shapeOf (s .args .shape)) _ (s .pre .1 .0) (omega (arith, c .before .before .if1 .taken, c .before .before .before .cells .ensures))
 
--- src/heads.rt:103:1
 returns-2 : tie.Need-returns-2
-returns-2 c = ?
+returns-2 c =
+    let s = c .before .before .before in
+    head-last (shapeOf (s .args .shape)) _ (s .pre .1 .0) (s .pre .1 .1) (omega (arith, c .if1 .left, c .before .cells .ensures))
 
 pub row-after-spec : {M : Type 1} → statement M
 row-after-spec =
