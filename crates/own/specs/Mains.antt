@@ -5,6 +5,7 @@ use mathlib.Core.Bool.{Bool, true, false}
 use mathlib.Core.Logic.{_⊎_, inl, inr}
 use mathlib.Core.List.{List}
 use native.Mathlib.Omega.{arith}
+use native.Mathlib.Decide.{decLt}
 use lib.ListN.{length}
 use Rattle.rules.specs.Shape as R
 use Rattle.rules.specs.Shape.{vars, flag, cells}
@@ -99,6 +100,14 @@ module _ {C : ℕ} {rows : List ℕ} {s : Table} (c : ℕ) (x : K.Row) (q : x .0
   made-cells d size = made-two h (made-cell c x q) g (made-cell e y p) refl o d size
 
 -- ---- instructions by their code
+
+-- R18: the codes of RES and FEDGE.
+pub falls : (code : ℕ) → (code ≡ 32 → ⊥) → (code ≡ 33 → ⊥) → (code ≡ 35 → ⊥) → 32 ≤ code → code < 37 → (code ≡ 34) ⊎ (code ≡ 36)
+falls code a b c h l = elim (decLt code 35) [ yes k ↦ inl (omega arith) | no k ↦ inr (omega arith) ]
+
+-- R17, R19: the codes of LOAD and EPUSH.
+pub loads : (code : ℕ) → (code ≡ 17 → ⊥) → (code ≡ 18 → ⊥) → 16 ≤ code → code < 20 → (code ≡ 16) ⊎ (code ≡ 19)
+loads code a b h l = elim (decLt code 17) [ yes k ↦ inl (omega arith) | no k ↦ inr (omega arith) ]
 
 module _ (sh : Shape) {rows : List ℕ} {s : Table} (g : Given sh rows s) (code : ℕ) where
   abbrev S : R.Shape

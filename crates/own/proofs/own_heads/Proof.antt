@@ -1,3 +1,7 @@
+use Rattle.own.specs.OwnLaws.{own-drawn, in-shape, own-given, code-there, alone-low, alone-is, value-low, value-there, value-own, byte-there, variable-low, variable-is}
+use Rattle.rules.specs.Expr.{con}
+use mathlib.Core.Bool.{false}
+use mathlib.Core.Path.{refl}
 use borrow.Author.Needs.{needs}
 use Rattle.own.proofs.own_heads.Statement.{statement}
 use Rattle.own.proofs.own_heads.Tie as tie
@@ -12,93 +16,103 @@ use Rattle.own.proofs.mains.row_alone.Reads as row-alone-reads
 use Rattle.own.proofs.mains.row_value.Reads as row-value-reads
 use Rattle.own.proofs.mains.row_variable.Reads as row-variable-reads
 
--- src/lib.rt:37:16
 shared-slice-read-code : tie.Need-shared-slice-read-code
-shared-slice-read-code c = ?
+shared-slice-read-code c =
+    let s = c .before .before .before .before in
+    code-there _ _ _ _ _ _ _ _ (s .pre)
 
--- src/lib.rt:39:13
 row-alone-requires : tie.Need-row-alone-requires
-row-alone-requires c κs = ?
+row-alone-requires c κs =
+    let s = c .before .before .before .before .before .before in
+    (own-given _ _ _ _ _ _ _ _ (s .pre), alone-low _ _ _ _ _ _ _ _ (s .pre) _ refl (c .before .if1 .taken))
 
--- src/lib.rt:40:26
 change-alone-requires : tie.Need-change-alone-requires
-change-alone-requires c κs = ?
+change-alone-requires c κs =
+    let s = c .before .before .before .before .before .before .before .before .before in
+    (in-shape _ _ _ _ _ _ _ _ (s .pre), alone-low _ _ _ _ _ _ _ _ (s .pre) _ refl (c .before .before .before .before .if1 .taken))
 
--- src/lib.rt:40:9
 put-heads-requires : tie.Need-put-heads-requires
-put-heads-requires c κs = ?
+put-heads-requires c κs =
+    let s = c .before .before .before .before .before .before .before .before .before .before .before in
+    let g = (c .before .change-alone .ensures) in
+    (in-shape _ _ _ _ _ _ _ _ (s .pre), (s .pre .count, (g .source, g .target, g .main)))
 
--- src/lib.rt:41:9
 same-length : tie.Need-same-length
 same-length c = search needs
 
--- src/lib.rt:41:9
 same-length-2 : tie.Need-same-length-2
 same-length-2 c = search needs
 
--- src/lib.rt:41:9
 returns : tie.Need-returns
-returns c = ?
+returns c =
+    let s = c .before .before .before .before .before .before .before .before .before .before .before .before .before .before .before in
+    rw (alone-is _ _ _ _ _ _ _ _ (s .pre) _ refl (c .before .before .before .before .before .before .before .before .before .before .if1 .taken)) (own-drawn _ _ _ (c .before .before .before .before .before .change-alone .ensures) (c .before .before .before .before .before .before .before .before .row-alone .ensures) _ (c .before .before .before .put-heads .ensures))
 
--- src/lib.rt:44:13
 row-value-requires : tie.Need-row-value-requires
-row-value-requires c κs = ?
+row-value-requires c κs =
+    let s = c .before .before .before .before .before .before .before in
+    let v = value-low _ _ _ _ _ _ _ _ (s .pre) _ refl (c .before .before .if1 .left) (c .before .if2 .taken) in
+    (own-given _ _ _ _ _ _ _ _ (s .pre), (v .0, v .1, s .pre .near, value-there _ _ _ _ _ _ _ _ (s .pre) _ refl (c .before .before .if1 .left) (c .before .if2 .taken)))
 
--- src/lib.rt:45:26
 change-value-requires : tie.Need-change-value-requires
-change-value-requires c κs = ?
+change-value-requires c κs =
+    let s = c .before .before .before .before .before .before .before .before .before .before in
+    (in-shape _ _ _ _ _ _ _ _ (s .pre), value-low _ _ _ _ _ _ _ _ (s .pre) _ refl (c .before .before .before .before .before .if1 .left) (c .before .before .before .before .if2 .taken))
 
--- src/lib.rt:45:9
 put-heads-requires-2 : tie.Need-put-heads-requires-2
-put-heads-requires-2 c κs = ?
+put-heads-requires-2 c κs =
+    let s = c .before .before .before .before .before .before .before .before .before .before .before .before in
+    let g = (c .before .change-value .ensures) (con false) in
+    (in-shape _ _ _ _ _ _ _ _ (s .pre), (s .pre .count, (g .source, g .target, g .main)))
 
--- src/lib.rt:46:9
 same-length-3 : tie.Need-same-length-3
 same-length-3 c = search needs
 
--- src/lib.rt:46:9
 same-length-4 : tie.Need-same-length-4
 same-length-4 c = search needs
 
--- src/lib.rt:46:9
 returns-2 : tie.Need-returns-2
-returns-2 c = ?
+returns-2 c =
+    let s = c .before .before .before .before .before .before .before .before .before .before .before .before .before .before .before .before in
+    value-own _ _ _ _ _ _ _ _ (s .pre) _ refl (c .before .before .before .before .before .before .before .before .before .before .before .if1 .left) (c .before .before .before .before .before .before .before .before .before .before .if2 .taken) (λ x h. own-drawn _ _ _ ((c .before .before .before .before .before .change-value .ensures) (x .got)) ((c .before .before .before .before .before .before .before .before .row-value .ensures) x h) _ (c .before .before .before .put-heads2 .ensures))
 
--- src/lib.rt:48:32
 add-of-byte : tie.Need-add-of-byte
 add-of-byte c = search needs
 
--- src/lib.rt:48:27
 shared-slice-read-of-byte : tie.Need-shared-slice-read-of-byte
-shared-slice-read-of-byte c = ?
+shared-slice-read-of-byte c =
+    let s = c .before .before .before .before .before .before .before in
+    byte-there _ _ _ _ _ _ _ _ (s .pre) _ refl (c .before .if2 .left)
 
--- src/lib.rt:48:9
 of-byte-requires : tie.Need-of-byte-requires
 of-byte-requires c κs = search needs
 
--- src/lib.rt:49:9
 row-variable-requires : tie.Need-row-variable-requires
-row-variable-requires c κs = ?
+row-variable-requires c κs =
+    let s = c .before .before .before .before .before .before .before .before .before in
+    (own-given _ _ _ _ _ _ _ _ (s .pre), variable-low _ _ _ _ _ _ _ _ (s .pre) _ refl (c .before .before .before .if2 .left) _ (c .before .of-byte .ensures))
 
--- src/lib.rt:50:22
 change-variable-requires : tie.Need-change-variable-requires
-change-variable-requires c κs = ?
+change-variable-requires c κs =
+    let s = c .before .before .before .before .before .before .before .before .before .before .before .before in
+    (in-shape _ _ _ _ _ _ _ _ (s .pre), variable-low _ _ _ _ _ _ _ _ (s .pre) _ refl (c .before .before .before .before .before .before .if2 .left) _ (c .before .before .before .before .of-byte .ensures))
 
--- src/lib.rt:50:5
 put-heads-requires-3 : tie.Need-put-heads-requires-3
-put-heads-requires-3 c κs = ?
+put-heads-requires-3 c κs =
+    let s = c .before .before .before .before .before .before .before .before .before .before .before .before .before .before in
+    let g = (c .before .change-variable .ensures) in
+    (in-shape _ _ _ _ _ _ _ _ (s .pre), (s .pre .count, (g .source, g .target, g .main)))
 
--- src/lib.rt:23:1
 same-length-5 : tie.Need-same-length-5
 same-length-5 c = search needs
 
--- src/lib.rt:23:1
 same-length-6 : tie.Need-same-length-6
 same-length-6 c = search needs
 
--- src/lib.rt:23:1
 returns-3 : tie.Need-returns-3
-returns-3 c = ?
+returns-3 c =
+    let s = c .before .before .before .before .before .before .before .before .before .before .before .before .before .before .before .before .before .before in
+    rw (variable-is _ _ _ _ _ _ _ _ (s .pre) _ refl (c .before .before .before .before .before .before .before .before .before .before .before .before .if2 .left) _ (c .before .before .before .before .before .before .before .before .before .before .of-byte .ensures)) (own-drawn _ _ _ (c .before .before .before .before .before .change-variable .ensures) (c .before .before .before .before .before .before .before .before .row-variable .ensures) _ (c .before .before .before .put-heads3 .ensures))
 
 pub own-heads-spec : {M : Type 1} → statement M
 own-heads-spec =

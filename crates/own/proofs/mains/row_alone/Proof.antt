@@ -1,3 +1,6 @@
+use Rattle.own.specs.Mains.{row-stands, opposite-addable, row-not, top-addable, row-tand, row-tor}
+use mathlib.Core.Bool.{true, false}
+use native.Mathlib.Omega.{arith}
 use borrow.Author.Needs.{needs}
 use Rattle.own.proofs.mains.row_alone.Statement.{statement}
 use Rattle.own.proofs.mains.row_alone.Tie as tie
@@ -8,65 +11,74 @@ use Rattle.base.proofs.shape.Shape.flag.Reads as flag-reads
 use Rattle.own.proofs.mains.row_moved.Reads as row-moved-reads
 use Rattle.rows.proofs.table.add.Reads as add-reads
 
--- src/mains.rt:44:9
 flag-requires : tie.Need-flag-requires
-flag-requires c κs = ?
+flag-requires c κs =
+    let s = c .before in
+    omega (arith, s .pre .0 .inside .most)
 
--- src/mains.rt:45:9
 of-cell-requires : tie.Need-of-cell-requires
-of-cell-requires c κs = ?
+of-cell-requires c κs =
+    let s = c .before .before in
+    omega (arith, s .pre .0 .inside .most, (c .flag .ensures))
 
--- src/mains.rt:47:9
 add-requires : tie.Need-add-requires
-add-requires c κs = ?
+add-requires c κs =
+    let s = c .before .before .before .before .before in
+    opposite-addable _ (s .pre .0) (s .args .code) _ (c .before .before .before .flag .ensures) _ (c .before .before .of-cell .ensures)
 
--- src/mains.rt:47:9
 same-length : tie.Need-same-length
-same-length c = ?
+same-length c = search needs
 
--- src/mains.rt:47:9
 returns : tie.Need-returns
-returns c = ?
+returns c =
+    let s = c .before .before .before .before .before .before .before .before in
+    row-not _ (s .pre .0) (s .args .code) _ (c .before .before .before .before .before .before .flag .ensures) _ (c .before .before .before .before .before .of-cell .ensures) (c .before .before .before .before .if1 .taken) _ _ (c .before .before .add .ensures) (c .before .before .add .kept .0)
 
--- src/mains.rt:49:31
 add-t12 : tie.Need-add-t12
-add-t12 c = ?
+add-t12 c =
+    let s = c .before .before .before .before .before in
+    omega (arith, s .pre .0 .inside .most, (c .before .before .before .flag .ensures))
 
--- src/mains.rt:49:9
 of-cell-requires-2 : tie.Need-of-cell-requires-2
-of-cell-requires-2 c κs = ?
+of-cell-requires-2 c κs =
+    let s = c .before .before .before .before .before in
+    omega (arith, s .pre .0 .inside .most, (c .before .before .before .flag .ensures))
 
--- src/mains.rt:51:9
 add-requires-2 : tie.Need-add-requires-2
-add-requires-2 c κs = ?
+add-requires-2 c κs =
+    let s = c .before .before .before .before .before .before .before .before in
+    top-addable _ (s .pre .0) (s .args .code) _ (c .before .before .before .before .before .before .flag .ensures) _ (c .before .before .before .before .before .of-cell .ensures) _ (c .before .before .of-cell2 .ensures) true
 
--- src/mains.rt:51:9
 same-length-2 : tie.Need-same-length-2
-same-length-2 c = ?
+same-length-2 c = search needs
 
--- src/mains.rt:51:9
 returns-2 : tie.Need-returns-2
-returns-2 c = ?
+returns-2 c =
+    let s = c .before .before .before .before .before .before .before .before .before .before .before in
+    row-tand _ (s .pre .0) (s .args .code) _ (c .before .before .before .before .before .before .before .before .before .flag .ensures) _ (c .before .before .before .before .before .before .before .before .of-cell .ensures) _ (c .before .before .before .before .before .of-cell2 .ensures) (c .before .before .before .before .if2 .taken) _ _ (c .before .before .add2 .ensures) (c .before .before .add2 .kept .0)
 
--- src/mains.rt:54:9
 add-requires-3 : tie.Need-add-requires-3
-add-requires-3 c κs = ?
+add-requires-3 c κs =
+    let s = c .before .before .before .before .before .before .before .before .before in
+    top-addable _ (s .pre .0) (s .args .code) _ (c .before .before .before .before .before .before .before .flag .ensures) _ (c .before .before .before .before .before .before .of-cell .ensures) _ (c .before .before .before .of-cell2 .ensures) false
 
--- src/mains.rt:54:9
 same-length-3 : tie.Need-same-length-3
-same-length-3 c = ?
+same-length-3 c = search needs
 
--- src/mains.rt:54:9
 returns-3 : tie.Need-returns-3
-returns-3 c = ?
+returns-3 c =
+    let s = c .before .before .before .before .before .before .before .before .before .before .before .before in
+    row-tor _ (s .pre .0) (s .args .code) _ (c .before .before .before .before .before .before .before .before .before .before .flag .ensures) _ (c .before .before .before .before .before .before .before .before .before .of-cell .ensures) _ (c .before .before .before .before .before .before .of-cell2 .ensures) (c .before .before .before .before .if3 .taken) _ _ (c .before .before .add3 .ensures) (c .before .before .add3 .kept .0)
 
--- src/mains.rt:57:14
 row-moved-requires : tie.Need-row-moved-requires
-row-moved-requires c κs = ?
+row-moved-requires c κs =
+    let s = c .before .before .before .before .before .before .before .before in
+    (s .pre .0 .inside, (s .pre .1, λ h. omega (arith, (c .before .before .before .before .if1 .left), (c .before .if2 .left), (c .if3 .left))))
 
--- src/mains.rt:38:1
 returns-4 : tie.Need-returns-4
-returns-4 c = ?
+returns-4 c =
+    let s = c .before .before .before .before .before .before .before .before .before in
+    row-stands _ (s .pre .0) (s .args .code) _ (c .row-moved .ensures)
 
 pub row-alone-spec : {M : Type 1} → statement M
 row-alone-spec =

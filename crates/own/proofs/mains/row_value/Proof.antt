@@ -1,3 +1,6 @@
+use Rattle.own.specs.Mains.{value-spelling, value-addable, row-and, row-or, row-load, loads}
+use mathlib.Core.Bool.{true, false}
+use native.Mathlib.Omega.{arith}
 use borrow.Author.Needs.{needs}
 use Rattle.own.proofs.mains.row_value.Statement.{statement}
 use Rattle.own.proofs.mains.row_value.Tie as tie
@@ -9,61 +12,63 @@ use Rattle.base.proofs.shape.Shape.vars.Reads as vars-reads
 use Rattle.own.proofs.expression.add_expression.Reads as add-expression-reads
 use Rattle.rows.proofs.table.add.Reads as add-reads
 
--- src/mains.rt:70:26
 flag-requires : tie.Need-flag-requires
-flag-requires c κs = search needs
+flag-requires c κs =
+    let s = c .before .before in
+    omega (arith, s .pre .0 .inside .most)
 
--- src/mains.rt:70:9
 of-cell-requires : tie.Need-of-cell-requires
-of-cell-requires c κs = search needs
+of-cell-requires c κs =
+    let s = c .before .before .before in
+    omega (arith, s .pre .0 .inside .most, (c .flag .ensures))
 
--- src/mains.rt:71:38
 vars-requires : tie.Need-vars-requires
 vars-requires c κs = search needs
 
--- src/mains.rt:71:52
 add-add-expression : tie.Need-add-add-expression
 add-add-expression c = search needs
 
--- src/mains.rt:71:61
 add-add-expression-2 : tie.Need-add-add-expression-2
 add-add-expression-2 c = search needs
 
--- src/mains.rt:71:9
 add-expression-requires : tie.Need-add-expression-requires
-add-expression-requires c κs = ?
+add-expression-requires c κs =
+    let s = c .before .before .before .before .before .before in
+    value-spelling _ (s .pre .0) (s .args .code) _ (c .before .before .before .flag .ensures) _ (c .before .before .of-cell .ensures) _ _ _ _ (c .before .vars .ensures) (s .pre .1 .3)
 
--- src/mains.rt:76:9
 add-requires : tie.Need-add-requires
-add-requires c κs = ?
+add-requires c κs =
+    let s = c .before .before .before .before .before .before .before .before .before .before .before .before .before .before in
+    value-addable _ (s .pre .0) (s .args .code) _ (c .before .before .before .before .before .before .before .before .before .before .before .flag .ensures) _ (c .before .before .before .before .before .before .before .before .before .before .of-cell .ensures) _ _ _ _ (c .before .before .before .before .before .before .before .before .before .vars .ensures) (s .pre .1 .3) _ _ (c .before .before .before .before .before .before .before .add-expression .ensures) (c .before .before .before .before .before .before .before .add-expression .kept .1 .1 .1 .1 .0) true
 
--- src/mains.rt:76:9
 same-length : tie.Need-same-length
 same-length c = search needs
 
--- src/mains.rt:76:9
 returns : tie.Need-returns
-returns c = ?
+returns c =
+    let s = c .before .before .before .before .before .before .before .before .before .before .before .before .before .before .before .before .before in
+    row-and _ (s .pre .0) (s .args .code) _ (c .before .before .before .before .before .before .before .before .before .before .before .before .before .before .flag .ensures) _ (c .before .before .before .before .before .before .before .before .before .before .before .before .before .of-cell .ensures) _ _ _ _ (c .before .before .before .before .before .before .before .before .before .before .before .before .vars .ensures) (s .pre .1 .3) _ _ (c .before .before .before .before .before .before .before .before .before .before .add-expression .ensures) (c .before .before .before .before .before .before .before .before .before .before .add-expression .kept .1 .1 .1 .1 .0) (c .before .before .before .before .if1 .taken) _ _ (c .before .before .add .ensures) (c .before .before .add .kept .0)
 
--- src/mains.rt:79:9
 add-requires-2 : tie.Need-add-requires-2
-add-requires-2 c κs = ?
+add-requires-2 c κs =
+    let s = c .before .before .before .before .before .before .before .before .before .before .before .before .before .before .before in
+    value-addable _ (s .pre .0) (s .args .code) _ (c .before .before .before .before .before .before .before .before .before .before .before .before .flag .ensures) _ (c .before .before .before .before .before .before .before .before .before .before .before .of-cell .ensures) _ _ _ _ (c .before .before .before .before .before .before .before .before .before .before .vars .ensures) (s .pre .1 .3) _ _ (c .before .before .before .before .before .before .before .before .add-expression .ensures) (c .before .before .before .before .before .before .before .before .add-expression .kept .1 .1 .1 .1 .0) false
 
--- src/mains.rt:79:9
 same-length-2 : tie.Need-same-length-2
 same-length-2 c = search needs
 
--- src/mains.rt:79:9
 returns-2 : tie.Need-returns-2
-returns-2 c = ?
+returns-2 c =
+    let s = c .before .before .before .before .before .before .before .before .before .before .before .before .before .before .before .before .before .before in
+    row-or _ (s .pre .0) (s .args .code) _ (c .before .before .before .before .before .before .before .before .before .before .before .before .before .before .before .flag .ensures) _ (c .before .before .before .before .before .before .before .before .before .before .before .before .before .before .of-cell .ensures) _ _ _ _ (c .before .before .before .before .before .before .before .before .before .before .before .before .before .vars .ensures) (s .pre .1 .3) _ _ (c .before .before .before .before .before .before .before .before .before .before .before .add-expression .ensures) (c .before .before .before .before .before .before .before .before .before .before .before .add-expression .kept .1 .1 .1 .1 .0) (c .before .before .before .before .if2 .taken) _ _ (c .before .before .add2 .ensures) (c .before .before .add2 .kept .0)
 
--- src/mains.rt:64:1
 same-length-3 : tie.Need-same-length-3
 same-length-3 c = search needs
 
--- src/mains.rt:64:1
 returns-3 : tie.Need-returns-3
-returns-3 c = ?
+returns-3 c =
+    let s = c .before .before .before .before .before .before .before .before .before .before .before .before .before .before in
+    row-load _ (s .pre .0) (s .args .code) _ (c .before .before .before .before .before .before .before .before .before .before .before .flag .ensures) _ (c .before .before .before .before .before .before .before .before .before .before .of-cell .ensures) _ _ _ _ (c .before .before .before .before .before .before .before .before .before .vars .ensures) (s .pre .1 .3) _ _ (c .before .before .before .before .before .before .before .add-expression .ensures) (c .before .before .before .before .before .before .before .add-expression .kept .1 .1 .1 .1 .0) (loads _ (c .before .if1 .left) (c .if2 .left) (s .pre .1 .0) (s .pre .1 .1))
 
 pub row-value-spec : {M : Type 1} → statement M
 row-value-spec =

@@ -1,3 +1,6 @@
+use Rattle.own.specs.Mains.{row-store, pair-addable, row-set, opposite-addable, variable-addable, rise-addable, row-rise, fall-addable, row-fall, falls}
+use mathlib.Core.Bool.{false}
+use native.Mathlib.Omega.{arith}
 use borrow.Author.Needs.{needs}
 use Rattle.own.proofs.mains.row_variable.Statement.{statement}
 use Rattle.own.proofs.mains.row_variable.Tie as tie
@@ -7,65 +10,75 @@ use Rattle.base.proofs.kinds.Row.of_cell.Reads as of-cell-reads
 use Rattle.base.proofs.shape.Shape.flag.Reads as flag-reads
 use Rattle.rows.proofs.table.add.Reads as add-reads
 
--- src/mains.rt:91:26
 flag-requires : tie.Need-flag-requires
-flag-requires c κs = ?
+flag-requires c κs =
+    let s = c .before in
+    omega (arith, s .pre .0 .inside .most)
 
--- src/mains.rt:91:9
 of-cell-requires : tie.Need-of-cell-requires
-of-cell-requires c κs = ?
+of-cell-requires c κs =
+    let s = c .before .before in
+    omega (arith, s .pre .0 .inside .most, (c .flag .ensures))
 
--- src/mains.rt:92:9
 of-cell-requires-2 : tie.Need-of-cell-requires-2
-of-cell-requires-2 c κs = ?
+of-cell-requires-2 c κs =
+    let s = c .before .before .before in
+    omega (arith, s .pre .0 .inside .most, s .pre .1 .2)
 
--- src/mains.rt:94:9
 returns : tie.Need-returns
-returns c = ?
+returns c =
+    let s = c .before .before .before .before .before in
+    row-store _ (s .pre .0) (s .args .code) _ (c .before .before .before .flag .ensures) _ (c .before .before .of-cell .ensures) (s .args .b .0) (s .pre .1 .2) _ (c .before .of-cell2 .ensures) (c .if1 .taken)
 
--- src/mains.rt:100:9
 add-requires : tie.Need-add-requires
-add-requires c κs = ?
+add-requires c κs =
+    let s = c .before .before .before .before .before .before .before in
+    pair-addable _ (s .pre .0) (s .args .code) _ (c .before .before .before .before .before .flag .ensures) _ (c .before .before .before .before .of-cell .ensures) (s .args .b .0) (s .pre .1 .2) _ (c .before .before .before .of-cell2 .ensures) false
 
--- src/mains.rt:100:9
 same-length : tie.Need-same-length
-same-length c = ?
+same-length c = search needs
 
--- src/mains.rt:100:9
 returns-2 : tie.Need-returns-2
-returns-2 c = ?
+returns-2 c =
+    let s = c .before .before .before .before .before .before .before .before .before .before in
+    row-set _ (s .pre .0) (s .args .code) _ (c .before .before .before .before .before .before .before .before .flag .ensures) _ (c .before .before .before .before .before .before .before .of-cell .ensures) (s .args .b .0) (s .pre .1 .2) _ (c .before .before .before .before .before .before .of-cell2 .ensures) (c .before .before .before .before .if2 .taken) _ _ (c .before .before .add .ensures) (c .before .before .add .kept .0)
 
--- src/mains.rt:103:13
 add-requires-2 : tie.Need-add-requires-2
-add-requires-2 c κs = ?
+add-requires-2 c κs =
+    let s = c .before .before .before .before .before .before .before .before in
+    variable-addable _ (s .pre .0) (s .args .code) _ (c .before .before .before .before .before .before .flag .ensures) _ (c .before .before .before .before .before .of-cell .ensures) (s .args .b .0) (s .pre .1 .2) _ (c .before .before .before .before .of-cell2 .ensures)
 
--- src/mains.rt:106:9
 add-requires-3 : tie.Need-add-requires-3
-add-requires-3 c κs = ?
+add-requires-3 c κs =
+    let s = c .before .before .before .before .before .before .before .before .before .before .before .before .before .before in
+    rise-addable _ (s .pre .0) (s .args .code) _ (c .before .before .before .before .before .before .before .before .before .before .before .before .flag .ensures) _ (c .before .before .before .before .before .before .before .before .before .before .before .of-cell .ensures) (s .args .b .0) (s .pre .1 .2) _ (c .before .before .before .before .before .before .before .before .before .before .of-cell2 .ensures) _ _ (c .before .before .before .before .before .add2 .ensures) (c .before .before .before .before .before .add2 .kept .0)
 
--- src/mains.rt:106:9
 same-length-2 : tie.Need-same-length-2
-same-length-2 c = ?
+same-length-2 c = search needs
 
--- src/mains.rt:106:9
 returns-3 : tie.Need-returns-3
-returns-3 c = ?
+returns-3 c =
+    let s = c .before .before .before .before .before .before .before .before .before .before .before .before .before .before .before .before .before in
+    row-rise _ (s .pre .0) (s .args .code) _ (c .before .before .before .before .before .before .before .before .before .before .before .before .before .before .before .flag .ensures) _ (c .before .before .before .before .before .before .before .before .before .before .before .before .before .before .of-cell .ensures) (s .args .b .0) (s .pre .1 .2) _ (c .before .before .before .before .before .before .before .before .before .before .before .before .before .of-cell2 .ensures) _ _ (c .before .before .before .before .before .before .before .before .add2 .ensures) (c .before .before .before .before .before .before .before .before .add2 .kept .0) (c .before .before .before .before .before .before .before .before .before .before .if3 .taken) _ _ (c .before .before .add3 .ensures) (c .before .before .add3 .kept .0)
 
--- src/mains.rt:108:9
 add-requires-4 : tie.Need-add-requires-4
-add-requires-4 c κs = ?
+add-requires-4 c κs =
+    let s = c .before .before .before .before .before .before .before .before in
+    opposite-addable _ (s .pre .0) (s .args .code) _ (c .before .before .before .before .before .before .flag .ensures) _ (c .before .before .before .before .before .of-cell .ensures)
 
--- src/mains.rt:111:5
 add-requires-5 : tie.Need-add-requires-5
-add-requires-5 c κs = ?
+add-requires-5 c κs =
+    let s = c .before .before .before .before .before .before .before .before .before .before .before .before .before .before in
+    fall-addable _ (s .pre .0) (s .args .code) _ (c .before .before .before .before .before .before .before .before .before .before .before .before .flag .ensures) _ (c .before .before .before .before .before .before .before .before .before .before .before .of-cell .ensures) (s .args .b .0) (s .pre .1 .2) _ (c .before .before .before .before .before .before .before .before .before .before .of-cell2 .ensures) _ _ (c .before .before .before .before .before .add4 .ensures) (c .before .before .before .before .before .add4 .kept .0)
 
--- src/mains.rt:85:1
 same-length-3 : tie.Need-same-length-3
-same-length-3 c = ?
+same-length-3 c = search needs
 
--- src/mains.rt:85:1
 returns-4 : tie.Need-returns-4
-returns-4 c = ?
+returns-4 c =
+    let s = c .before .before .before .before .before .before .before .before .before .before .before .before .before .before .before .before .before in
+    row-fall _ (s .pre .0) (s .args .code) _ (c .before .before .before .before .before .before .before .before .before .before .before .before .before .before .before .flag .ensures) _ (c .before .before .before .before .before .before .before .before .before .before .before .before .before .before .of-cell .ensures) (s .args .b .0) (s .pre .1 .2) _ (c .before .before .before .before .before .before .before .before .before .before .before .before .before .of-cell2 .ensures) _ _ (c .before .before .before .before .before .before .before .before .add4 .ensures) (c .before .before .before .before .before .before .before .before .add4 .kept .0)
+    (falls _ (c .before .before .before .before .before .before .before .before .before .before .before .before .if1 .left) (c .before .before .before .before .before .before .before .before .before .before .before .if2 .left) (c .before .before .before .before .before .before .before .before .before .before .if3 .left) (s .pre .1 .0) (s .pre .1 .1)) _ _ (c .before .before .add5 .ensures) (c .before .before .add5 .kept .0)
 
 pub row-variable-spec : {M : Type 1} → statement M
 row-variable-spec =
