@@ -12,7 +12,7 @@ use borrow.Author.Tests.{lt-ltb, le-ltb, eq-eqb, ne-eqb}
 use Rattle.rules.specs.Lists.{from}
 use Rattle.rules.specs.Shape.{Shape, vars, flag, cells}
 use Rattle.rules.specs.Expr.{Exp, con, cell}
-use Rattle.rules.specs.Instr.{Plain, INIT, NOT, TAND, TOR, PUSH, POP, DROP, DUP, FSWP, ESWP, LOAD, AND, OR, EPUSH, STORE, SET, RES, REDGE, FEDGE}
+use Rattle.rules.specs.Instr.{Plain, INIT, NOT, TAND, TOR, PUSH, POP, DROP, DUP, LOAD, AND, OR, EPUSH, STORE, SET, RES, REDGE, FEDGE}
 use Rattle.rules.specs.Instr.{put, keep, stack, e, pushed, popped, effect}
 use Rattle.laws.specs.Lists.{length-from, getD-map-from}
 use Rattle.laws.specs.Own.{Simple, simpleRow}

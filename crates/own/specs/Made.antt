@@ -1,6 +1,6 @@
 -- The row of an expression made in a lent slice: a constant or a cell, NOT of one that is made, AND or OR of two.
 use Prim.Native.Nat.{ℕ, _≤_, _<_}
-use mathlib.Core.Path.{_≡_, refl, sym, ap, ap₂, _∙_}
+use mathlib.Core.Path.{_≡_, refl, ap, ap₂}
 use mathlib.Core.Bool.{Bool, true, false}
 use mathlib.Core.List.{List}
 use native.Mathlib.Omega.{arith}
@@ -9,13 +9,12 @@ use Rattle.rules.specs.Expr.{Exp, neg}
 use Rattle.rules.specs.Expr as E
 use Rattle.rules.specs.Rows.{Row, inv, bin}
 use Rattle.rules.specs.Build.{addExp}
-use Rattle.laws.specs.Verdict.{no-false}
 use Rattle.laws.specs.Canonical.{Over, Canonical}
 use Rattle.laws.specs.Grow.{ext-length, grown-ext}
 use Rattle.laws.specs.Build.{addExp-grown, addExp-sound}
 use Rattle.laws.specs.Own.{Simple, simpleRow, simple-added}
 use Rattle.base.specs.declared.kinds.Row as K
-use Rattle.rows.specs.Table.{Holds, Gives, Addable, Adds}
+use Rattle.rows.specs.Table.{Holds, Addable, Adds}
 use Rattle.rows.specs.Adding.{holds-add, stored-length}
 use Rattle.rows.specs.Making.{Open, Makes, addable}
 use Rattle.rows.specs.declared.node.Node.the-variants.{Not, Two}

@@ -8,7 +8,7 @@ use native.Mathlib.Numerals.{add-one}
 use native.Mathlib.Decide.{decLt}
 use lib.ListN.{length, getD}
 use lib.Dec.{eqb}
-use borrow.Author.Tests.{lt-ltb, le-ltb, eq-eqb, ne-eqb}
+use borrow.Author.Tests.{lt-ltb, le-ltb}
 use Rattle.rules.specs.Expr.{Exp, con, cell, Read, two}
 use Rattle.rules.specs.Rows.{inv, bin}
 use Rattle.laws.specs.Verdict.{grants-of}
@@ -16,13 +16,13 @@ use Rattle.laws.specs.Canonical.{Over}
 use Rattle.laws.specs.ProgramFile.{expr-over}
 use Rattle.laws.specs.Build.{over-more}
 use Rattle.base.specs.declared.kinds.Row as K
-use Rattle.program.specs.Reading.{Reads, Parts, Legible, variable-parts, constant-parts, not-parts, two-parts, read-operand, read-second}
+use Rattle.program.specs.Reading.{Reads, Parts, variable-parts, constant-parts, not-parts, two-parts, read-operand, read-second}
 use Rattle.rows.specs.Table.{Addable, Adds}
 use Rattle.rows.specs.declared.node.Node.the-variants.{Not, Two}
 use Rattle.rows.specs.declared.table.Table.{Table}
 use Rattle.rows.specs.declared.table.Added.{Added}
 use Rattle.own.specs.declared.expression.Grown.{Grown}
-use Rattle.own.specs.Made.{Made, made-simple, open-after, not-addable, made-not, two-addable, made-two}
+use Rattle.own.specs.Made.{made-simple, open-after, not-addable, made-not, two-addable, made-two}
 use Rattle.own.specs.Spelling.{leafRow, Spelling, Spells}
 
 -- R11: an expression that was read names only cells that there are.

@@ -1,13 +1,12 @@
 // The row of an instruction's main expression, the only one that can be no constant and no cell (R17 to R19, R37).
+use crate::expression::add_expression;
 use base::kinds::Cell;
 use base::kinds::Row;
 use base::shape::Shape;
-use crate::expression::add_expression;
 use rows::node::Node;
 use rows::table::Added;
 use rows::table::Table;
 use rows::table::add;
-ghost use mathlib.Core.Path.{_≡_};
 ghost use Prim.Native.Nat.{_+_, _≤_, _<_};
 ghost use Rattle.base.specs.Answers.{shapeOf};
 ghost use Rattle.rules.specs.Expr.{Exp, Read};
@@ -15,7 +14,6 @@ ghost use Rattle.rules.specs.Shape.{vars, cells};
 ghost use Rattle.program.specs.Codes.{aloneOf, onExpr, onVariable};
 ghost use Rattle.program.specs.Contracts.{farthest};
 ghost use Rattle.program.specs.Reading.{Reads, Legible};
-ghost use Rattle.laws.specs.Own.{Simple, simpleRow};
 ghost use Rattle.own.specs.Made.{Made};
 ghost use Rattle.own.specs.Changes.{Inside, mainOf};
 ghost use Rattle.own.specs.Mains.{Given, MainRow};
@@ -61,7 +59,14 @@ pub fn row_alone(shape: Shape, code: u8, rows: &mut [u64], table: Table) -> Adde
 }
 
 // R17, R19: adds the main row of an instruction that takes the expression after its code.
-pub fn row_value(file: &[u8], shape: Shape, code: u8, at: usize, rows: &mut [u64], table: Table) -> Added
+pub fn row_value(
+    file: &[u8],
+    shape: Shape,
+    code: u8,
+    at: usize,
+    rows: &mut [u64],
+    table: Table,
+) -> Added
     requires { ⌜ Given shape (now rows) table ⌝ }
     requires { ⌜ (16 ≤ code) × (code < 20) × (at < farthest) × Legible (now file) (vars (shapeOf shape)) (at + 65) (at + 1) ⌝ }
     ensures { λ r.

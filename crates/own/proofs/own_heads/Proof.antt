@@ -1,3 +1,4 @@
+-- `own_heads` meets its contract.
 use Rattle.own.specs.OwnLaws.{own-drawn, in-shape, own-given, code-there, alone-low, alone-is, value-low, value-there, value-own, byte-there, variable-low, variable-is}
 use Rattle.rules.specs.Expr.{con}
 use mathlib.Core.Bool.{false}
@@ -5,16 +6,6 @@ use mathlib.Core.Path.{refl}
 use borrow.Author.Needs.{needs}
 use Rattle.own.proofs.own_heads.Statement.{statement}
 use Rattle.own.proofs.own_heads.Tie as tie
-use Rattle.own.proofs.own_heads.Reads as reads
-use Rattle.own.proofs.own_heads.Lts as lts
-use Rattle.base.proofs.kinds.Cell.of_byte.Reads as of-byte-reads
-use Rattle.own.proofs.heads.change_alone.Reads as change-alone-reads
-use Rattle.own.proofs.heads.change_value.Reads as change-value-reads
-use Rattle.own.proofs.heads.change_variable.Reads as change-variable-reads
-use Rattle.own.proofs.heads.put_heads.Reads as put-heads-reads
-use Rattle.own.proofs.mains.row_alone.Reads as row-alone-reads
-use Rattle.own.proofs.mains.row_value.Reads as row-value-reads
-use Rattle.own.proofs.mains.row_variable.Reads as row-variable-reads
 
 shared-slice-read-code : tie.Need-shared-slice-read-code
 shared-slice-read-code c =

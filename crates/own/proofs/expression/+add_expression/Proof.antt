@@ -1,3 +1,4 @@
+-- `add_expression` meets its contract: what is left to read falls at each call of itself.
 use Rattle.own.specs.SpellLaws.{spell-leaf, operand-spelling, second-spelling, spell-addable, spell-not, both-addable, spell-two}
 use Rattle.program.specs.Reading.{read-before, read-inside, second-later}
 use borrow.Author.Needs.{needs}

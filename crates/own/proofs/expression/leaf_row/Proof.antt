@@ -1,13 +1,10 @@
+-- `leaf_row` meets its contract.
 use mathlib.Core.Path.{refl}
 use borrow.Author.Tests.{lt-ltb, le-ltb}
 use native.Mathlib.Omega.{arith}
 use borrow.Author.Needs.{needs}
 use Rattle.own.proofs.expression.leaf_row.Statement.{statement}
 use Rattle.own.proofs.expression.leaf_row.Tie as tie
-use Rattle.own.proofs.expression.leaf_row.Reads as reads
-use Rattle.own.proofs.expression.leaf_row.Lts as lts
-use Rattle.base.proofs.kinds.Cell.of_byte.Reads as of-byte-reads
-use Rattle.base.proofs.kinds.Row.of_cell.Reads as of-cell-reads
 
 of-byte-requires : tie.Need-of-byte-requires
 of-byte-requires c κs = search needs

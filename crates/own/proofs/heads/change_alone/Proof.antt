@@ -1,16 +1,12 @@
+-- `change_alone` meets its contract.
 use Rattle.own.specs.ChangeLaws.{change-reset, change-flag, change-push, pops, change-pop, change-fswp, change-eswp}
 use mathlib.Core.Logic.{inl, inr}
 use mathlib.Core.Path.{_≡_, ap}
 use Prim.Native.Nat.{_+_}
-use Rattle.base.specs.Answers.{shapeOf}
 use native.Mathlib.Omega.{arith}
 use borrow.Author.Needs.{needs}
 use Rattle.own.proofs.heads.change_alone.Statement.{statement}
 use Rattle.own.proofs.heads.change_alone.Tie as tie
-use Rattle.own.proofs.heads.change_alone.Reads as reads
-use Rattle.own.proofs.heads.change_alone.Lts as lts
-use Rattle.base.proofs.shape.Shape.flag.Reads as flag-reads
-use Rattle.own.proofs.heads.change_of.Reads as change-of-reads
 
 flag-requires : tie.Need-flag-requires
 flag-requires c κs = omega (arith, c .pre .0 .most)

@@ -1,15 +1,11 @@
+-- `change_value` meets its contract.
 use Rattle.own.specs.ChangeLaws.{change-epush, change-load}
 use mathlib.Core.Path.{ap}
 use Prim.Native.Nat.{_+_}
-use Rattle.base.specs.Answers.{shapeOf}
 use native.Mathlib.Omega.{arith}
 use borrow.Author.Needs.{needs}
 use Rattle.own.proofs.heads.change_value.Statement.{statement}
 use Rattle.own.proofs.heads.change_value.Tie as tie
-use Rattle.own.proofs.heads.change_value.Reads as reads
-use Rattle.own.proofs.heads.change_value.Lts as lts
-use Rattle.base.proofs.shape.Shape.flag.Reads as flag-reads
-use Rattle.own.proofs.heads.change_of.Reads as change-of-reads
 
 flag-requires : tie.Need-flag-requires
 flag-requires c κs = omega (arith, c .pre .0 .most)

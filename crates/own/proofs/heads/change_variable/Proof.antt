@@ -1,11 +1,8 @@
+-- `change_variable` meets its contract.
 use Rattle.own.specs.ChangeLaws.{change-store, change-edge}
 use native.Mathlib.Omega.{arith}
-use borrow.Author.Needs.{needs}
 use Rattle.own.proofs.heads.change_variable.Statement.{statement}
 use Rattle.own.proofs.heads.change_variable.Tie as tie
-use Rattle.own.proofs.heads.change_variable.Reads as reads
-use Rattle.own.proofs.heads.change_variable.Lts as lts
-use Rattle.base.proofs.shape.Shape.flag.Reads as flag-reads
 
 flag-requires : tie.Need-flag-requires
 flag-requires c κs = omega (arith, c .pre .0 .most)

@@ -1,3 +1,4 @@
+-- `head_by` meets its contract.
 use Rattle.own.specs.ChangeLaws.{head-kept, head-low, head-pushed, head-reset}
 use mathlib.Core.Path.{_∙_}
 use Rattle.base.specs.Answers.{shapeOf}
@@ -5,11 +6,6 @@ use native.Mathlib.Omega.{arith}
 use borrow.Author.Needs.{needs}
 use Rattle.own.proofs.heads.head_by.Statement.{statement}
 use Rattle.own.proofs.heads.head_by.Tie as tie
-use Rattle.own.proofs.heads.head_by.Reads as reads
-use Rattle.own.proofs.heads.head_by.Lts as lts
-use Rattle.base.proofs.kinds.Row.of_cell.Reads as of-cell-reads
-use Rattle.base.proofs.shape.Shape.vars.Reads as vars-reads
-use Rattle.own.proofs.heads.row_after.Reads as row-after-reads
 
 cast-if1 : tie.Need-cast-if1
 cast-if1 c = search needs
@@ -40,7 +36,6 @@ enum-told-2 c = search needs
 
 sub-t8 : tie.Need-sub-t8
 sub-t8 c =
-    let s = c .before .before .before .before .before .before in
     omega (arith, c .before .before .before .if1 .left, c .before .before .before .before .vars .ensures)
 
 of-cell-requires-3 : tie.Need-of-cell-requires-3
@@ -71,7 +66,6 @@ returns-3 c =
 
 returns-4 : tie.Need-returns-4
 returns-4 c =
-    let s = c .before .before .before .before .before .before in
     rw (c .before .enum-told3 .given .1) (c .row-after .ensures)
 
 returns-5 : tie.Need-returns-5

@@ -1,3 +1,4 @@
+-- `move_heads` meets its contract: one head more a turn.
 use Rattle.own.specs.ChangeLaws.{heads-more, heads-all}
 use Rattle.own.specs.Changes.{movedHeads}
 use Rattle.storage.specs.Moves.{Replacing, replacing-none}
@@ -8,9 +9,6 @@ use Rattle.base.specs.Answers.{shapeOf}
 use native.Mathlib.Omega.{arith}
 use Rattle.own.proofs.heads.move_heads.Statement.{statement}
 use Rattle.own.proofs.heads.move_heads.Tie as tie
-use Rattle.own.proofs.heads.move_heads.Reads as reads
-use Rattle.own.proofs.heads.move_heads.Lts as lts
-use Rattle.own.proofs.heads.head_by.Reads as head-by-reads
 
 abbrev Inv-loop : tie.InvT-loop
 Inv-loop shape stack made₀ c₀ made c = Replacing made₀ 0 (movedHeads (shapeOf shape) stack) made c

@@ -1,3 +1,4 @@
+-- `put_heads` meets its contract.
 use lib.ListN.{length-set}
 use Rattle.own.specs.ChangeLaws.{put-changed}
 use Rattle.base.specs.Answers.{shapeOf}
@@ -5,10 +6,6 @@ use native.Mathlib.Omega.{arith}
 use borrow.Author.Needs.{needs}
 use Rattle.own.proofs.heads.put_heads.Statement.{statement}
 use Rattle.own.proofs.heads.put_heads.Tie as tie
-use Rattle.own.proofs.heads.put_heads.Reads as reads
-use Rattle.own.proofs.heads.put_heads.Lts as lts
-use Rattle.base.proofs.kinds.Row.of_cell.Reads as of-cell-reads
-use Rattle.own.proofs.heads.move_heads.Reads as move-heads-reads
 
 move-heads-requires : tie.Need-move-heads-requires
 move-heads-requires c κs =

@@ -1,3 +1,4 @@
+-- `row_after` meets its contract.
 use Rattle.own.specs.ChangeLaws.{head-popped, head-last}
 use mathlib.Core.Path.{_∙_}
 use Rattle.base.specs.Answers.{shapeOf}
@@ -5,10 +6,6 @@ use native.Mathlib.Omega.{arith}
 use borrow.Author.Needs.{needs}
 use Rattle.own.proofs.heads.row_after.Statement.{statement}
 use Rattle.own.proofs.heads.row_after.Tie as tie
-use Rattle.own.proofs.heads.row_after.Reads as reads
-use Rattle.own.proofs.heads.row_after.Lts as lts
-use Rattle.base.proofs.kinds.Row.of_cell.Reads as of-cell-reads
-use Rattle.base.proofs.shape.Shape.cells.Reads as cells-reads
 
 cast-if1 : tie.Need-cast-if1
 cast-if1 c = search needs

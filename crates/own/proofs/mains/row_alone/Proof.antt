@@ -1,15 +1,10 @@
+-- `row_alone` meets its contract.
 use Rattle.own.specs.Mains.{row-stands, opposite-addable, row-not, top-addable, row-tand, row-tor}
 use mathlib.Core.Bool.{true, false}
 use native.Mathlib.Omega.{arith}
 use borrow.Author.Needs.{needs}
 use Rattle.own.proofs.mains.row_alone.Statement.{statement}
 use Rattle.own.proofs.mains.row_alone.Tie as tie
-use Rattle.own.proofs.mains.row_alone.Reads as reads
-use Rattle.own.proofs.mains.row_alone.Lts as lts
-use Rattle.base.proofs.kinds.Row.of_cell.Reads as of-cell-reads
-use Rattle.base.proofs.shape.Shape.flag.Reads as flag-reads
-use Rattle.own.proofs.mains.row_moved.Reads as row-moved-reads
-use Rattle.rows.proofs.table.add.Reads as add-reads
 
 flag-requires : tie.Need-flag-requires
 flag-requires c κs =

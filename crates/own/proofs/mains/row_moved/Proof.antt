@@ -1,15 +1,11 @@
+-- `row_moved` meets its contract.
 use Rattle.own.specs.Mains.{main-init, main-flag, main-second, main-top}
 use mathlib.Core.Logic.{inl, inr}
 use mathlib.Core.Path.{_≡_}
 use Prim.Native.Nat.{_≤_}
 use native.Mathlib.Omega.{arith}
-use borrow.Author.Needs.{needs}
 use Rattle.own.proofs.mains.row_moved.Statement.{statement}
 use Rattle.own.proofs.mains.row_moved.Tie as tie
-use Rattle.own.proofs.mains.row_moved.Reads as reads
-use Rattle.own.proofs.mains.row_moved.Lts as lts
-use Rattle.base.proofs.kinds.Row.of_cell.Reads as of-cell-reads
-use Rattle.base.proofs.shape.Shape.flag.Reads as flag-reads
 
 flag-requires : tie.Need-flag-requires
 flag-requires c κs =
@@ -43,17 +39,14 @@ of-cell-requires-3 c κs =
 
 returns : tie.Need-returns
 returns c =
-    let s = c .before .before in
     main-init _ _ (c .match .keys1)
 
 returns-2 : tie.Need-returns-2
 returns-2 c =
-    let s = c .before .before .before in
     main-flag _ _ _ _ (c .before .before .flag .ensures) (c .of-cell .ensures) (c .before .match .keys2)
 
 returns-3 : tie.Need-returns-3
 returns-3 c =
-    let s = c .before .before .before .before in
     main-second _ _ _ _ (c .before .before .before .flag .ensures) (c .of-cell2 .ensures) (c .before .before .match .keys3)
 
 returns-4 : tie.Need-returns-4

@@ -1,16 +1,10 @@
+-- `row_value` meets its contract.
 use Rattle.own.specs.Mains.{value-spelling, value-addable, row-and, row-or, row-load, loads}
 use mathlib.Core.Bool.{true, false}
 use native.Mathlib.Omega.{arith}
 use borrow.Author.Needs.{needs}
 use Rattle.own.proofs.mains.row_value.Statement.{statement}
 use Rattle.own.proofs.mains.row_value.Tie as tie
-use Rattle.own.proofs.mains.row_value.Reads as reads
-use Rattle.own.proofs.mains.row_value.Lts as lts
-use Rattle.base.proofs.kinds.Row.of_cell.Reads as of-cell-reads
-use Rattle.base.proofs.shape.Shape.flag.Reads as flag-reads
-use Rattle.base.proofs.shape.Shape.vars.Reads as vars-reads
-use Rattle.own.proofs.expression.add_expression.Reads as add-expression-reads
-use Rattle.rows.proofs.table.add.Reads as add-reads
 
 flag-requires : tie.Need-flag-requires
 flag-requires c κs =

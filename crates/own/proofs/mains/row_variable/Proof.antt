@@ -1,14 +1,10 @@
+-- `row_variable` meets its contract.
 use Rattle.own.specs.Mains.{row-store, pair-addable, row-set, opposite-addable, variable-addable, rise-addable, row-rise, fall-addable, row-fall, falls}
 use mathlib.Core.Bool.{false}
 use native.Mathlib.Omega.{arith}
 use borrow.Author.Needs.{needs}
 use Rattle.own.proofs.mains.row_variable.Statement.{statement}
 use Rattle.own.proofs.mains.row_variable.Tie as tie
-use Rattle.own.proofs.mains.row_variable.Reads as reads
-use Rattle.own.proofs.mains.row_variable.Lts as lts
-use Rattle.base.proofs.kinds.Row.of_cell.Reads as of-cell-reads
-use Rattle.base.proofs.shape.Shape.flag.Reads as flag-reads
-use Rattle.rows.proofs.table.add.Reads as add-reads
 
 flag-requires : tie.Need-flag-requires
 flag-requires c κs =
