@@ -177,9 +177,9 @@ module _ (sh : Shape) {rows : List ℕ} {s : Table} (g : Given sh rows s) (code 
 
       -- After NOT of the variable.
       module _ (n : Added) (mid : List ℕ) (m : Adds rows s (Not y) n mid) (kept : length mid ≡ length rows) where
-        pub rise-addable : n .table .refused ≡ false → Addable mid (n .table .used) (bin true (x .0) (n .row .0))
-        rise-addable = two-addable {C = C} {x = cell (flag S)} in-flag (made-cell (flag S) x flag-row) in-variable
-            (made-opposite b y p (omega arith) m kept) kept true (g .opened)
+        pub rise-addable : (o : Bool) → n .table .refused ≡ false → Addable mid (n .table .used) (bin o (x .0) (n .row .0))
+        rise-addable o = two-addable {C = C} {x = cell (flag S)} in-flag (made-cell (flag S) x flag-row) in-variable
+            (made-opposite b y p (omega arith) m kept) kept o (g .opened)
 
         pub row-rise : code ≡ 35 → (a : Added) (after : List ℕ) → Adds mid (n .table) (Two true x (n .row)) a after
             → length after ≡ length mid → Makes (onVariable code b) a after
@@ -190,9 +190,9 @@ module _ (sh : Shape) {rows : List ℕ} {s : Table} (g : Given sh rows s) (code 
 
       -- After NOT of the flag.
       module _ (n : Added) (mid : List ℕ) (m : Adds rows s (Not x) n mid) (kept : length mid ≡ length rows) where
-        pub fall-addable : n .table .refused ≡ false → Addable mid (n .table .used) (bin true (n .row .0) (y .0))
-        fall-addable = two-addable {C = C} {x = neg (cell (flag S))} in-flag
-            (made-opposite (flag S) x flag-row (omega arith) m kept) in-variable (made-cell b y p) refl true (g .opened)
+        pub fall-addable : (o : Bool) → n .table .refused ≡ false → Addable mid (n .table .used) (bin o (n .row .0) (y .0))
+        fall-addable o = two-addable {C = C} {x = neg (cell (flag S))} in-flag
+            (made-opposite (flag S) x flag-row (omega arith) m kept) in-variable (made-cell b y p) refl o (g .opened)
 
         pub row-fall : (code ≡ 34) ⊎ (code ≡ 36) → (a : Added) (after : List ℕ) → Adds mid (n .table) (Two true (n .row) y) a after
             → length after ≡ length mid → Makes (onVariable code b) a after

@@ -112,12 +112,12 @@ module _ (file : List ℕ) (v stop p : ℕ) (rows : List ℕ) (s : Table) (g : S
       first : {x : Read Exp} {o : Bool} (t : Parts file v stop p x (two o)) → y .next ≡ t .0 .next
       first t = w′ .place (t .0) (t .2)
 
-      pub both-addable : z .added .table .refused ≡ false
-          → Addable more (z .added .table .used) (bin (eqb b 253) (y .added .row .0) (z .added .row .0))
-      both-addable =
+      pub both-addable : (o : Bool) → z .added .table .refused ≡ false
+          → Addable more (z .added .table .used) (bin o (y .added .row .0) (z .added .row .0))
+      both-addable o =
           let t = two-parts file v stop p (g .legible) (g .legible .what) (g .legible .reads) h in
           two-addable (reads-over (g .count) (g .enough) (t .2)) (w′ .made (g .count) (g .enough) (t .0) (t .2))
-          (reads-over (g .count) (g .enough) (t .3)) ((rw (first t) at u) .made (g .count) (g .enough) (t .1) (t .3)) kept (eqb b 253)
+          (reads-over (g .count) (g .enough) (t .3)) ((rw (first t) at u) .made (g .count) (g .enough) (t .1) (t .3)) kept o
           (g .opened)
 
       pub spell-two : (a : Added) (after : List ℕ) → Adds more (z .added .table) (Two (eqb b 253) (y .added .row) (z .added .row)) a after

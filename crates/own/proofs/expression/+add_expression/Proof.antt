@@ -169,7 +169,7 @@ add-expression-add-requires-2 t c κs =
     let s = c .before .before .before .before .before .before .before .before .before .before .before .before .before .before .before .before .before .before .before .before in
     let h : 252 < getD (s .args .file .now) (s .args .at) 0 = omega (arith, c .before .before .before .before .before .before .before .before .before .before .before .before .before .before .before .before .if1 .left, c .before .before .before .before .before .before .before .before .if2 .left) in
     both-addable _ _ _ _ _ _ (s .pre .1) _ _ (c .before .before .before .before .before .before .before .before .before .before .before .before .before .before .add-expression .ensures) h _ _ (c .before .before .before .before .before .before .add-expression2 .ensures)
-    (c .before .before .before .before .before .before .add-expression2 .kept .1 .1 .1 .1 .0)
+    (c .before .before .before .before .before .before .add-expression2 .kept .1 .1 .1 .1 .0) _
 
 add-expression-same-length-2 : (t : ℕ) → add-expression-lts.Need-same-length-2 (
   leaf-row-reads.Asked,

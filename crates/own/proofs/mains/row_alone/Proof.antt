@@ -1,6 +1,5 @@
 -- `row_alone` meets its contract.
 use Rattle.own.specs.Mains.{row-stands, opposite-addable, row-not, top-addable, row-tand, row-tor}
-use mathlib.Core.Bool.{true, false}
 use native.Mathlib.Omega.{arith}
 use borrow.Author.Needs.{needs}
 use Rattle.own.proofs.mains.row_alone.Statement.{statement}
@@ -42,7 +41,7 @@ of-cell-requires-2 c κs =
 add-requires-2 : tie.Need-add-requires-2
 add-requires-2 c κs =
     let s = c .before .before .before .before .before .before .before .before in
-    top-addable _ (s .pre .0) (s .args .code) _ (c .before .before .before .before .before .before .flag .ensures) _ (c .before .before .before .before .before .of-cell .ensures) _ (c .before .before .of-cell2 .ensures) true
+    top-addable _ (s .pre .0) (s .args .code) _ (c .before .before .before .before .before .before .flag .ensures) _ (c .before .before .before .before .before .of-cell .ensures) _ (c .before .before .of-cell2 .ensures) _
 
 same-length-2 : tie.Need-same-length-2
 same-length-2 c = search needs
@@ -55,7 +54,7 @@ returns-2 c =
 add-requires-3 : tie.Need-add-requires-3
 add-requires-3 c κs =
     let s = c .before .before .before .before .before .before .before .before .before in
-    top-addable _ (s .pre .0) (s .args .code) _ (c .before .before .before .before .before .before .before .flag .ensures) _ (c .before .before .before .before .before .before .of-cell .ensures) _ (c .before .before .before .of-cell2 .ensures) false
+    top-addable _ (s .pre .0) (s .args .code) _ (c .before .before .before .before .before .before .before .flag .ensures) _ (c .before .before .before .before .before .before .of-cell .ensures) _ (c .before .before .before .of-cell2 .ensures) _
 
 same-length-3 : tie.Need-same-length-3
 same-length-3 c = search needs

@@ -1,6 +1,5 @@
 -- `row_value` meets its contract.
 use Rattle.own.specs.Mains.{value-spelling, value-addable, row-and, row-or, row-load, loads}
-use mathlib.Core.Bool.{true, false}
 use native.Mathlib.Omega.{arith}
 use borrow.Author.Needs.{needs}
 use Rattle.own.proofs.mains.row_value.Statement.{statement}
@@ -33,7 +32,7 @@ add-expression-requires c κs =
 add-requires : tie.Need-add-requires
 add-requires c κs =
     let s = c .before .before .before .before .before .before .before .before .before .before .before .before .before .before in
-    value-addable _ (s .pre .0) (s .args .code) _ (c .before .before .before .before .before .before .before .before .before .before .before .flag .ensures) _ (c .before .before .before .before .before .before .before .before .before .before .of-cell .ensures) _ _ _ _ (c .before .before .before .before .before .before .before .before .before .vars .ensures) (s .pre .1 .3) _ _ (c .before .before .before .before .before .before .before .add-expression .ensures) (c .before .before .before .before .before .before .before .add-expression .kept .1 .1 .1 .1 .0) true
+    value-addable _ (s .pre .0) (s .args .code) _ (c .before .before .before .before .before .before .before .before .before .before .before .flag .ensures) _ (c .before .before .before .before .before .before .before .before .before .before .of-cell .ensures) _ _ _ _ (c .before .before .before .before .before .before .before .before .before .vars .ensures) (s .pre .1 .3) _ _ (c .before .before .before .before .before .before .before .add-expression .ensures) (c .before .before .before .before .before .before .before .add-expression .kept .1 .1 .1 .1 .0) _
 
 same-length : tie.Need-same-length
 same-length c = search needs
@@ -46,7 +45,7 @@ returns c =
 add-requires-2 : tie.Need-add-requires-2
 add-requires-2 c κs =
     let s = c .before .before .before .before .before .before .before .before .before .before .before .before .before .before .before in
-    value-addable _ (s .pre .0) (s .args .code) _ (c .before .before .before .before .before .before .before .before .before .before .before .before .flag .ensures) _ (c .before .before .before .before .before .before .before .before .before .before .before .of-cell .ensures) _ _ _ _ (c .before .before .before .before .before .before .before .before .before .before .vars .ensures) (s .pre .1 .3) _ _ (c .before .before .before .before .before .before .before .before .add-expression .ensures) (c .before .before .before .before .before .before .before .before .add-expression .kept .1 .1 .1 .1 .0) false
+    value-addable _ (s .pre .0) (s .args .code) _ (c .before .before .before .before .before .before .before .before .before .before .before .before .flag .ensures) _ (c .before .before .before .before .before .before .before .before .before .before .before .of-cell .ensures) _ _ _ _ (c .before .before .before .before .before .before .before .before .before .before .vars .ensures) (s .pre .1 .3) _ _ (c .before .before .before .before .before .before .before .before .add-expression .ensures) (c .before .before .before .before .before .before .before .before .add-expression .kept .1 .1 .1 .1 .0) _
 
 same-length-2 : tie.Need-same-length-2
 same-length-2 c = search needs

@@ -1,6 +1,5 @@
 -- `row_variable` meets its contract.
 use Rattle.own.specs.Mains.{row-store, pair-addable, row-set, opposite-addable, variable-addable, rise-addable, row-rise, fall-addable, row-fall, falls}
-use mathlib.Core.Bool.{false}
 use native.Mathlib.Omega.{arith}
 use borrow.Author.Needs.{needs}
 use Rattle.own.proofs.mains.row_variable.Statement.{statement}
@@ -29,7 +28,7 @@ returns c =
 add-requires : tie.Need-add-requires
 add-requires c κs =
     let s = c .before .before .before .before .before .before .before in
-    pair-addable _ (s .pre .0) (s .args .code) _ (c .before .before .before .before .before .flag .ensures) _ (c .before .before .before .before .of-cell .ensures) (s .args .b .0) (s .pre .1 .2) _ (c .before .before .before .of-cell2 .ensures) false
+    pair-addable _ (s .pre .0) (s .args .code) _ (c .before .before .before .before .before .flag .ensures) _ (c .before .before .before .before .of-cell .ensures) (s .args .b .0) (s .pre .1 .2) _ (c .before .before .before .of-cell2 .ensures) _
 
 same-length : tie.Need-same-length
 same-length c = search needs
@@ -47,7 +46,7 @@ add-requires-2 c κs =
 add-requires-3 : tie.Need-add-requires-3
 add-requires-3 c κs =
     let s = c .before .before .before .before .before .before .before .before .before .before .before .before .before .before in
-    rise-addable _ (s .pre .0) (s .args .code) _ (c .before .before .before .before .before .before .before .before .before .before .before .before .flag .ensures) _ (c .before .before .before .before .before .before .before .before .before .before .before .of-cell .ensures) (s .args .b .0) (s .pre .1 .2) _ (c .before .before .before .before .before .before .before .before .before .before .of-cell2 .ensures) _ _ (c .before .before .before .before .before .add2 .ensures) (c .before .before .before .before .before .add2 .kept .0)
+    rise-addable _ (s .pre .0) (s .args .code) _ (c .before .before .before .before .before .before .before .before .before .before .before .before .flag .ensures) _ (c .before .before .before .before .before .before .before .before .before .before .before .of-cell .ensures) (s .args .b .0) (s .pre .1 .2) _ (c .before .before .before .before .before .before .before .before .before .before .of-cell2 .ensures) _ _ (c .before .before .before .before .before .add2 .ensures) (c .before .before .before .before .before .add2 .kept .0) _
 
 same-length-2 : tie.Need-same-length-2
 same-length-2 c = search needs
@@ -65,7 +64,7 @@ add-requires-4 c κs =
 add-requires-5 : tie.Need-add-requires-5
 add-requires-5 c κs =
     let s = c .before .before .before .before .before .before .before .before .before .before .before .before .before .before in
-    fall-addable _ (s .pre .0) (s .args .code) _ (c .before .before .before .before .before .before .before .before .before .before .before .before .flag .ensures) _ (c .before .before .before .before .before .before .before .before .before .before .before .of-cell .ensures) (s .args .b .0) (s .pre .1 .2) _ (c .before .before .before .before .before .before .before .before .before .before .of-cell2 .ensures) _ _ (c .before .before .before .before .before .add4 .ensures) (c .before .before .before .before .before .add4 .kept .0)
+    fall-addable _ (s .pre .0) (s .args .code) _ (c .before .before .before .before .before .before .before .before .before .before .before .before .flag .ensures) _ (c .before .before .before .before .before .before .before .before .before .before .before .of-cell .ensures) (s .args .b .0) (s .pre .1 .2) _ (c .before .before .before .before .before .before .before .before .before .before .of-cell2 .ensures) _ _ (c .before .before .before .before .before .add4 .ensures) (c .before .before .before .before .before .add4 .kept .0) _
 
 same-length-3 : tie.Need-same-length-3
 same-length-3 c = search needs
