@@ -64,7 +64,8 @@ module _ {C : ℕ} {rows mid : List ℕ} {s : Table} {x : Exp} {a : Added} (ox :
   }
 
   -- And another after it.
-  module _ {more : List ℕ} {y : Exp} {b : Added} (oy : Over C y) (n : Made C mid (a .table) y b more) (kept : length more ≡ length mid) (o : Bool) where
+  module _ {more : List ℕ} {y : Exp} {b : Added} (oy : Over C y) (n : Made C mid (a .table) y b more)
+      (kept : length more ≡ length mid) (o : Bool) where
     -- The two rows, where nothing is refused.
     record Both (t : List Row) : Type 0 where
       canonical : Canonical C (addExp (addExp t x .tab) y .tab)

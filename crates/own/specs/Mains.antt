@@ -90,8 +90,8 @@ module _ {C : ℕ} {rows : List ℕ} {s : Table} (c : ℕ) (x : K.Row) (q : x .0
         → Made C rows s (neg (cell c)) a after
     made-opposite d size = made-not h made-cell d size
 
-module _ {C : ℕ} {rows : List ℕ} {s : Table} (c : ℕ) (x : K.Row) (q : x .0 ≡ 2 + c) (h : c < C) (e : ℕ) (y : K.Row) (p : y .0 ≡ 2 + e)
-    (g : e < C) (o : Bool) where
+module _ {C : ℕ} {rows : List ℕ} {s : Table} (c : ℕ) (x : K.Row) (q : x .0 ≡ 2 + c) (h : c < C)
+    (e : ℕ) (y : K.Row) (p : y .0 ≡ 2 + e) (g : e < C) (o : Bool) where
   pub cells-addable : Open C rows s → s .refused ≡ false → Addable rows (s .used) (bin o (x .0) (y .0))
   cells-addable w = two-addable h (made-cell c x q) g (made-cell e y p) refl o w
 
@@ -141,7 +141,8 @@ module _ (sh : Shape) {rows : List ℕ} {s : Table} (g : Given sh rows s) (code 
     -- The row y of the top of the stack.
     module _ (y : K.Row) (p : y .0 ≡ 2 + (f + 1)) where
       pub top-addable : (o : Bool) → s .refused ≡ false → Addable rows (s .used) (bin o (x .0) (y .0))
-      top-addable o = cells-addable (flag S) x flag-row (omega arith) (flag S + 1) y (omega arith) (omega (arith, g .inside .deep)) o (g .opened)
+      top-addable o = cells-addable (flag S) x flag-row (omega arith) (flag S + 1) y (omega arith)
+          (omega (arith, g .inside .deep)) o (g .opened)
 
       pub row-tand : code ≡ 2 → (a : Added) (after : List ℕ) → Adds rows s (Two true x y) a after → length after ≡ length rows
           → Makes (aloneOf code) a after
@@ -204,7 +205,7 @@ module _ (sh : Shape) {rows : List ℕ} {s : Table} (g : Given sh rows s) (code 
             (made-two {C = C} {x = neg (cell (flag S))} in-flag
             (made-opposite (flag S) x flag-row (omega arith) m kept) in-variable (made-cell b y p) refl true d size)
 
-    -- R17, R19: after the expression that stands at p.
+    -- R17, R19: the expression that stands at a place.
     module _ (file : List ℕ) (stop at v : ℕ) (k : v ≡ vars S) (legible : Legible file (vars S) stop at) where
       pub value-spelling : Spelling file v stop at rows s
       value-spelling = rw k (record { legible = legible; count = C; enough = omega arith; opened = g .opened })
@@ -232,7 +233,8 @@ module _ (sh : Shape) {rows : List ℕ} {s : Table} (g : Given sh rows s) (code 
             (made-two {C = C} {x = cell (flag S)} (omega arith) (made-cell (flag S) x flag-row)
             (reads-over C (omega arith) h) (value-made y h) kept false d size)
 
-        pub row-load : (code ≡ 16) ⊎ (code ≡ 19) → (y : Read Exp) → Reads file (vars S) stop at y → Makes (onExpr code (y .got)) (r .added) mid
+        pub row-load : (code ≡ 16) ⊎ (code ≡ 19) → (y : Read Exp) → Reads file (vars S) stop at y
+            → Makes (onExpr code (y .got)) (r .added) mid
         unfolding effect placeOf
         row-load (inl z) y h = rw (z, put-here) (value-made y h)
         row-load (inr z) y h = rw (z, pushed-here) (value-made y h)

@@ -43,7 +43,9 @@ module _ (sh : R.Shape) (p : Plain) (x : Change) (g : Changes sh p x) where
   rest-row : (c : ℕ) → c < cells sh
       → getD (set (movedHeads sh (x .stack)) (x .target .0) (rowOfCell (x .source .0))) c 0 ≡ simpleRow (restBy sh x c)
   rest-row c h = elim (ℕ-discrete c (x .target .0)) [
-    | yes q ↦ rw (q, put-here) (getD-set-same (movedHeads sh (x .stack)) (x .target .0) _ 0 (omega (arith, g .target, size (λ k. simpleRow (movedBy sh (x .stack) k)))))
+    | yes q ↦
+        let wide = size (λ k. simpleRow (movedBy sh (x .stack) k)) in
+        rw (q, put-here) (getD-set-same (movedHeads sh (x .stack)) (x .target .0) _ 0 (omega (arith, g .target)))
     | no q ↦ rw (put-other (x .target .0) (cell (x .source .0)) (movedBy sh (x .stack)) c q)
         (getD-set-other (movedHeads sh (x .stack)) (x .target .0) c _ 0 q ∙ getD-map-from _ 0 (cells sh) c h)
   ]
@@ -51,11 +53,14 @@ module _ (sh : R.Shape) (p : Plain) (x : Change) (g : Changes sh p x) where
   heads-changed : (r : ℕ) → changed sh x r ≡ set heads (x .main .0) r
   heads-changed r =
       let moved = set (movedHeads sh (x .stack)) (x .target .0) (rowOfCell (x .source .0)) in
-      let long : length moved ≡ cells sh = length-set (movedHeads sh (x .stack)) (x .target .0) _ ∙ size (λ k. simpleRow (movedBy sh (x .stack) k)) in
+      let long : length moved ≡ cells sh
+      = length-set (movedHeads sh (x .stack)) (x .target .0) _ ∙ size (λ k. simpleRow (movedBy sh (x .stack) k)) in
       let wide : length heads ≡ cells sh = size (λ k. simpleRow (effect sh p k)) in
-      ext-getD 0 (changed sh x r) (set heads (x .main .0) r) (length-set moved (x .main .0) r ∙ long ∙ sym (length-set heads (x .main .0) r ∙ wide))
+      ext-getD 0 (changed sh x r) (set heads (x .main .0) r)
+      (length-set moved (x .main .0) r ∙ long ∙ sym (length-set heads (x .main .0) r ∙ wide))
       (λ c h. elim (ℕ-discrete c (x .main .0)) [
-        | yes q ↦ rw q (getD-set-same moved (x .main .0) r 0 (omega (arith, g .main)) ∙ sym (getD-set-same heads (x .main .0) r 0 (omega (arith, g .main))))
+        | yes q ↦ rw q (getD-set-same moved (x .main .0) r 0 (omega (arith, g .main))
+            ∙ sym (getD-set-same heads (x .main .0) r 0 (omega (arith, g .main))))
         | no q ↦
             let l : c < cells sh = omega (arith, length-set moved (x .main .0) r) in
             getD-set-other moved (x .main .0) c r 0 q ∙ rest-row c l ∙ ap simpleRow (sym (g .rest c q))
@@ -122,7 +127,8 @@ module _ (file : List ℕ) (sh : Shape) (n i at : ℕ) (rows : List ℕ) (s : Ta
       value-there = expression-there file sh n i stand at (g .here) c is past k (vars (shapeOf sh)) refl
 
       pub value-own : {after : List ℕ} {z : Table} {heads : List ℕ}
-          → ((x : Read Exp) → Reads file (vars (shapeOf sh)) (at + 65) (at + 1) x → Owns (shapeOf sh) (onExpr c (x .got)) rows s after z heads)
+          → ((x : Read Exp) → Reads file (vars (shapeOf sh)) (at + 65) (at + 1) x
+          → Owns (shapeOf sh) (onExpr c (x .got)) rows s after z heads)
           → Owns (shapeOf sh) (ownOf (instrAt file i)) rows s after z heads
       value-own o = rw (with-value file sh n i stand at (g .here) c is past k)
           (o (told .expr past k .2) (expression file sh n i stand at (g .here) c is past k (vars (shapeOf sh)) refl))

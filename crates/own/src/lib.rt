@@ -32,7 +32,8 @@ pub fn own_heads(
 ) -> Table
     requires { ⌜ Owning (now file) shape n (i .0) at (now rows) table (now made) ⌝ }
     ensures { λ r.
-        ⌜ Owns (shapeOf shape) (ownOf (instrAt (now (file .entry)) (i .0))) (now (rows .entry)) table (now (rows .exit)) r (now (made .exit)) ⌝ }
+        ⌜ Owns (shapeOf shape) (ownOf (instrAt (now (file .entry)) (i .0))) (now (rows .entry)) table (now (rows .exit)) r
+        (now (made .exit)) ⌝ }
 {
     let code = file[at];
     if code < 16 {

@@ -70,7 +70,8 @@ pub fn row_value(
     requires { ⌜ Given shape (now rows) table ⌝ }
     requires { ⌜ (16 ≤ code) × (code < 20) × (at < farthest) × Legible (now file) (vars (shapeOf shape)) (at + 65) (at + 1) ⌝ }
     ensures { λ r.
-        ⌜ ((x : Read Exp) → Reads (now (file .entry)) (vars (shapeOf shape)) (at + 65) (at + 1) x → Made (cells (shapeOf shape)) (now (rows .entry)) table (mainOf (shapeOf shape) (onExpr code (x .got))) r (now (rows .exit))) ⌝ }
+        ⌜ ((x : Read Exp) → Reads (now (file .entry)) (vars (shapeOf shape)) (at + 65) (at + 1) x
+        → Made (cells (shapeOf shape)) (now (rows .entry)) table (mainOf (shapeOf shape) (onExpr code (x .got))) r (now (rows .exit))) ⌝ }
 {
     let x = Row::of_cell(shape.flag());
     let grown = add_expression(file, shape.vars(), at + 65, at + 1, rows, table);
@@ -91,7 +92,8 @@ pub fn row_variable(shape: Shape, code: u8, b: Cell, rows: &mut [u64], table: Ta
     requires { ⌜ Given shape (now rows) table ⌝ }
     requires { ⌜ (32 ≤ code) × (code < 37) × (b .0 < vars (shapeOf shape)) ⌝ }
     ensures { λ r.
-        ⌜ Made (cells (shapeOf shape)) (now (rows .entry)) table (mainOf (shapeOf shape) (onVariable code (b .0))) r (now (rows .exit)) ⌝ }
+        ⌜ Made (cells (shapeOf shape)) (now (rows .entry)) table (mainOf (shapeOf shape) (onVariable code (b .0))) r
+        (now (rows .exit)) ⌝ }
 {
     let x = Row::of_cell(shape.flag());
     let y = Row::of_cell(b);

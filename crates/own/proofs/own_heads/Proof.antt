@@ -19,8 +19,9 @@ row-alone-requires c κs =
 
 change-alone-requires : tie.Need-change-alone-requires
 change-alone-requires c κs =
-    let s = c .before .before .before .before .before .before .before .before .before in
-    (in-shape _ _ _ _ _ _ _ _ (s .pre), alone-low _ _ _ _ _ _ _ _ (s .pre) _ refl (c .before .before .before .before .if1 .taken))
+    let c4 = c .before .before .before .before in
+    let s = c4 .before .before .before .before .before in
+    (in-shape _ _ _ _ _ _ _ _ (s .pre), alone-low _ _ _ _ _ _ _ _ (s .pre) _ refl (c4 .if1 .taken))
 
 put-heads-requires : tie.Need-put-heads-requires
 put-heads-requires c κs =
@@ -36,8 +37,13 @@ same-length-2 c = search needs
 
 returns : tie.Need-returns
 returns c =
-    let s = c .before .before .before .before .before .before .before .before .before .before .before .before .before .before .before in
-    rw (alone-is _ _ _ _ _ _ _ _ (s .pre) _ refl (c .before .before .before .before .before .before .before .before .before .before .if1 .taken)) (own-drawn _ _ _ (c .before .before .before .before .before .change-alone .ensures) (c .before .before .before .before .before .before .before .before .row-alone .ensures) _ (c .before .before .before .put-heads .ensures))
+    let c3 = c .before .before .before in
+    let c5 = c3 .before .before in
+    let c8 = c5 .before .before .before in
+    let c10 = c8 .before .before in
+    let s = c10 .before .before .before .before .before in
+    rw (alone-is _ _ _ _ _ _ _ _ (s .pre) _ refl (c10 .if1 .taken))
+    (own-drawn _ _ _ (c5 .change-alone .ensures) (c8 .row-alone .ensures) _ (c3 .put-heads .ensures))
 
 row-value-requires : tie.Need-row-value-requires
 row-value-requires c κs =
@@ -47,8 +53,10 @@ row-value-requires c κs =
 
 change-value-requires : tie.Need-change-value-requires
 change-value-requires c κs =
-    let s = c .before .before .before .before .before .before .before .before .before .before in
-    (in-shape _ _ _ _ _ _ _ _ (s .pre), value-low _ _ _ _ _ _ _ _ (s .pre) _ refl (c .before .before .before .before .before .if1 .left) (c .before .before .before .before .if2 .taken))
+    let c4 = c .before .before .before .before in
+    let c5 = c4 .before in
+    let s = c5 .before .before .before .before .before in
+    (in-shape _ _ _ _ _ _ _ _ (s .pre), value-low _ _ _ _ _ _ _ _ (s .pre) _ refl (c5 .if1 .left) (c4 .if2 .taken))
 
 put-heads-requires-2 : tie.Need-put-heads-requires-2
 put-heads-requires-2 c κs =
@@ -64,8 +72,14 @@ same-length-4 c = search needs
 
 returns-2 : tie.Need-returns-2
 returns-2 c =
-    let s = c .before .before .before .before .before .before .before .before .before .before .before .before .before .before .before .before in
-    value-own _ _ _ _ _ _ _ _ (s .pre) _ refl (c .before .before .before .before .before .before .before .before .before .before .before .if1 .left) (c .before .before .before .before .before .before .before .before .before .before .if2 .taken) (λ x h. own-drawn _ _ _ ((c .before .before .before .before .before .change-value .ensures) (x .got)) ((c .before .before .before .before .before .before .before .before .row-value .ensures) x h) _ (c .before .before .before .put-heads2 .ensures))
+    let c3 = c .before .before .before in
+    let c5 = c3 .before .before in
+    let c8 = c5 .before .before .before in
+    let c10 = c8 .before .before in
+    let c11 = c10 .before in
+    let s = c11 .before .before .before .before .before in
+    value-own _ _ _ _ _ _ _ _ (s .pre) _ refl (c11 .if1 .left) (c10 .if2 .taken)
+    (λ x h. own-drawn _ _ _ ((c5 .change-value .ensures) (x .got)) ((c8 .row-value .ensures) x h) _ (c3 .put-heads2 .ensures))
 
 add-of-byte : tie.Need-add-of-byte
 add-of-byte c = search needs
@@ -80,13 +94,16 @@ of-byte-requires c κs = search needs
 
 row-variable-requires : tie.Need-row-variable-requires
 row-variable-requires c κs =
-    let s = c .before .before .before .before .before .before .before .before .before in
-    (own-given _ _ _ _ _ _ _ _ (s .pre), variable-low _ _ _ _ _ _ _ _ (s .pre) _ refl (c .before .before .before .if2 .left) _ (c .before .of-byte .ensures))
+    let c3 = c .before .before .before in
+    let s = c3 .before .before .before .before .before .before in
+    (own-given _ _ _ _ _ _ _ _ (s .pre), variable-low _ _ _ _ _ _ _ _ (s .pre) _ refl (c3 .if2 .left) _ (c .before .of-byte .ensures))
 
 change-variable-requires : tie.Need-change-variable-requires
 change-variable-requires c κs =
-    let s = c .before .before .before .before .before .before .before .before .before .before .before .before in
-    (in-shape _ _ _ _ _ _ _ _ (s .pre), variable-low _ _ _ _ _ _ _ _ (s .pre) _ refl (c .before .before .before .before .before .before .if2 .left) _ (c .before .before .before .before .of-byte .ensures))
+    let c4 = c .before .before .before .before in
+    let c6 = c4 .before .before in
+    let s = c6 .before .before .before .before .before .before in
+    (in-shape _ _ _ _ _ _ _ _ (s .pre), variable-low _ _ _ _ _ _ _ _ (s .pre) _ refl (c6 .if2 .left) _ (c4 .of-byte .ensures))
 
 put-heads-requires-3 : tie.Need-put-heads-requires-3
 put-heads-requires-3 c κs =
@@ -102,8 +119,14 @@ same-length-6 c = search needs
 
 returns-3 : tie.Need-returns-3
 returns-3 c =
-    let s = c .before .before .before .before .before .before .before .before .before .before .before .before .before .before .before .before .before .before in
-    rw (variable-is _ _ _ _ _ _ _ _ (s .pre) _ refl (c .before .before .before .before .before .before .before .before .before .before .before .before .if2 .left) _ (c .before .before .before .before .before .before .before .before .before .before .of-byte .ensures)) (own-drawn _ _ _ (c .before .before .before .before .before .change-variable .ensures) (c .before .before .before .before .before .before .before .before .row-variable .ensures) _ (c .before .before .before .put-heads3 .ensures))
+    let c3 = c .before .before .before in
+    let c5 = c3 .before .before in
+    let c8 = c5 .before .before .before in
+    let c10 = c8 .before .before in
+    let c12 = c10 .before .before in
+    let s = c12 .before .before .before .before .before .before in
+    rw (variable-is _ _ _ _ _ _ _ _ (s .pre) _ refl (c12 .if2 .left) _ (c10 .of-byte .ensures))
+    (own-drawn _ _ _ (c5 .change-variable .ensures) (c8 .row-variable .ensures) _ (c3 .put-heads3 .ensures))
 
 pub own-heads-spec : {M : Type 1} → statement M
 own-heads-spec =

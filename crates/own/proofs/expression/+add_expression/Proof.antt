@@ -43,7 +43,9 @@ add-expression-shared-slice-read-b : (t : ℕ) → add-expression-lts.Need-share
   add-reads.Asked,
   add-reads.Learnt,
 ) (add-expression-at t) add-expression.Post
-add-expression-shared-slice-read-b t c = read-inside _ _ _ _ (c .before .before .before .pre .1 .legible)
+add-expression-shared-slice-read-b t c =
+    let c3 = c .before .before .before in
+    read-inside _ _ _ _ (c3 .pre .1 .legible)
 
 add-expression-leaf-row-requires : (t : ℕ) → add-expression-lts.Need-leaf-row-requires (
   leaf-row-reads.Asked,
@@ -63,7 +65,9 @@ add-expression-add-t21 : (t : ℕ) → add-expression-lts.Need-add-t21 (
   add-reads.Asked,
   add-reads.Learnt,
 ) (add-expression-at t) add-expression.Post
-add-expression-add-t21 t c = omega (arith, read-inside _ _ _ _ (c .before .before .before .before .before .pre .1 .legible))
+add-expression-add-t21 t c =
+    let c5 = c .before .before .before .before .before in
+    omega (arith, read-inside _ _ _ _ (c5 .pre .1 .legible))
 
 add-expression-returns : (t : ℕ) → add-expression-lts.Need-returns (
   leaf-row-reads.Asked,
@@ -85,7 +89,9 @@ add-expression-add-add-expression : (t : ℕ) → add-expression-lts.Need-add-ad
   add-reads.Asked,
   add-reads.Learnt,
 ) (add-expression-at t) add-expression.Post
-add-expression-add-add-expression t c = omega (arith, read-inside _ _ _ _ (c .before .before .before .before .pre .1 .legible))
+add-expression-add-add-expression t c =
+    let c4 = c .before .before .before .before in
+    omega (arith, read-inside _ _ _ _ (c4 .pre .1 .legible))
 
 add-expression-add-expression-requires : (t : ℕ) → add-expression-lts.Need-add-expression-requires (
   leaf-row-reads.Asked,
@@ -108,8 +114,9 @@ add-expression-add-requires : (t : ℕ) → add-expression-lts.Need-add-requires
   add-reads.Learnt,
 ) (add-expression-at t) add-expression.Post
 add-expression-add-requires t c κs =
-    let s = c .before .before .before .before .before .before .before .before .before .before .before .before .before in
-    spell-addable _ _ _ _ _ _ (s .pre .1) _ _ (c .before .before .before .before .before .before .before .add-expression .ensures) (c .before .if2 .taken)
+    let c7 = c .before .before .before .before .before .before .before in
+    let s = c7 .before .before .before .before .before .before in
+    spell-addable _ _ _ _ _ _ (s .pre .1) _ _ (c7 .add-expression .ensures) (c .before .if2 .taken)
 
 add-expression-same-length : (t : ℕ) → add-expression-lts.Need-same-length (
   leaf-row-reads.Asked,
@@ -130,8 +137,11 @@ add-expression-returns-2 : (t : ℕ) → add-expression-lts.Need-returns-2 (
   add-reads.Learnt,
 ) (add-expression-at t) add-expression.Post
 add-expression-returns-2 t c =
-    let s = c .before .before .before .before .before .before .before .before .before .before .before .before .before .before .before .before in
-    spell-not _ _ _ _ _ _ (s .pre .1) _ _ (c .before .before .before .before .before .before .before .before .before .before .add-expression .ensures) (c .before .before .before .before .if2 .taken) _ _ (c .before .before .add .ensures) (c .before .before .add .kept .0)
+    let c4 = c .before .before .before .before in
+    let c10 = c4 .before .before .before .before .before .before in
+    let s = c10 .before .before .before .before .before .before in
+    spell-not _ _ _ _ _ _ (s .pre .1) _ _ (c10 .add-expression .ensures) (c4 .if2 .taken) _ _ (c .before .before .add .ensures)
+    (c .before .before .add .kept .0)
 
 add-expression-add-expression-requires-2 :
     (t : ℕ) → add-expression-lts.Need-add-expression-requires-2 (
@@ -143,9 +153,11 @@ add-expression-add-expression-requires-2 :
       add-reads.Learnt,
     ) (add-expression-at t) add-expression.Post
 add-expression-add-expression-requires-2 t c κs =
-    let s = c .before .before .before .before .before .before .before .before .before .before .before .before .before in
-    let h : 252 < getD (s .args .file .now) (s .args .at) 0 = omega (arith, c .before .before .before .before .before .before .before .before .before .if1 .left, c .before .if2 .left) in
-    let e = c .before .before .before .before .before .before .before .add-expression .ensures in
+    let c7 = c .before .before .before .before .before .before .before in
+    let c9 = c7 .before .before in
+    let s = c9 .before .before .before .before in
+    let h : 252 < getD (s .args .file .now) (s .args .at) 0 = omega (arith, c9 .if1 .left, c .before .if2 .left) in
+    let e = c7 .add-expression .ensures in
     let g = second-spelling _ _ _ _ _ _ (s .pre .1) _ _ e h in (
       omega (
         arith,
@@ -166,10 +178,14 @@ add-expression-add-requires-2 : (t : ℕ) → add-expression-lts.Need-add-requir
   add-reads.Learnt,
 ) (add-expression-at t) add-expression.Post
 add-expression-add-requires-2 t c κs =
-    let s = c .before .before .before .before .before .before .before .before .before .before .before .before .before .before .before .before .before .before .before .before in
-    let h : 252 < getD (s .args .file .now) (s .args .at) 0 = omega (arith, c .before .before .before .before .before .before .before .before .before .before .before .before .before .before .before .before .if1 .left, c .before .before .before .before .before .before .before .before .if2 .left) in
-    both-addable _ _ _ _ _ _ (s .pre .1) _ _ (c .before .before .before .before .before .before .before .before .before .before .before .before .before .before .add-expression .ensures) h _ _ (c .before .before .before .before .before .before .add-expression2 .ensures)
-    (c .before .before .before .before .before .before .add-expression2 .kept .1 .1 .1 .1 .0) _
+    let c6 = c .before .before .before .before .before .before in
+    let c8 = c6 .before .before in
+    let c14 = c8 .before .before .before .before .before .before in
+    let c16 = c14 .before .before in
+    let s = c16 .before .before .before .before in
+    let h : 252 < getD (s .args .file .now) (s .args .at) 0 = omega (arith, c16 .if1 .left, c8 .if2 .left) in
+    both-addable _ _ _ _ _ _ (s .pre .1) _ _ (c14 .add-expression .ensures) h _ _ (c6 .add-expression2 .ensures)
+    (c6 .add-expression2 .kept .1 .1 .1 .1 .0) _
 
 add-expression-same-length-2 : (t : ℕ) → add-expression-lts.Need-same-length-2 (
   leaf-row-reads.Asked,
@@ -190,10 +206,14 @@ add-expression-returns-3 : (t : ℕ) → add-expression-lts.Need-returns-3 (
   add-reads.Learnt,
 ) (add-expression-at t) add-expression.Post
 add-expression-returns-3 t c =
-    let s = c .before .before .before .before .before .before .before .before .before .before .before .before .before .before .before .before .before .before .before .before .before .before .before in
-    let h : 252 < getD (s .args .file .now) (s .args .at) 0 = omega (arith, c .before .before .before .before .before .before .before .before .before .before .before .before .before .before .before .before .before .before .before .if1 .left, c .before .before .before .before .before .before .before .before .before .before .before .if2 .left) in
-    spell-two _ _ _ _ _ _ (s .pre .1) _ _ (c .before .before .before .before .before .before .before .before .before .before .before .before .before .before .before .before .before .add-expression .ensures) h _ _ (c .before .before .before .before .before .before .before .before .before .add-expression2 .ensures)
-    (c .before .before .before .before .before .before .before .before .before .add-expression2 .kept .1 .1 .1 .1 .0) _ _ (c .before .before .add2 .ensures) (c .before .before .add2 .kept .0)
+    let c9 = c .before .before .before .before .before .before .before .before .before in
+    let c11 = c9 .before .before in
+    let c17 = c11 .before .before .before .before .before .before in
+    let c19 = c17 .before .before in
+    let s = c19 .before .before .before .before in
+    let h : 252 < getD (s .args .file .now) (s .args .at) 0 = omega (arith, c19 .if1 .left, c11 .if2 .left) in
+    spell-two _ _ _ _ _ _ (s .pre .1) _ _ (c17 .add-expression .ensures) h _ _ (c9 .add-expression2 .ensures)
+    (c9 .add-expression2 .kept .1 .1 .1 .1 .0) _ _ (c .before .before .add2 .ensures) (c .before .before .add2 .kept .0)
 
 pub +add-expression-spec : {M : Type 1} → statement M
 +add-expression-spec = close μ-add-expression λ t. add-expression-lts.spec (

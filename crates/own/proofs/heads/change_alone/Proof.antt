@@ -24,8 +24,9 @@ change-of-requires-2 c κs = search needs
 
 add-t11 : tie.Need-add-t11
 add-t11 c =
-    let s = c .before .before .before .before in
-    omega (arith, s .pre .0 .most, c .before .before .before .flag .ensures)
+    let c3 = c .before .before .before in
+    let s = c3 .before in
+    omega (arith, s .pre .0 .most, c3 .flag .ensures)
 
 change-of-requires-3 : tie.Need-change-of-requires-3
 change-of-requires-3 c κs = search needs
@@ -35,13 +36,16 @@ change-of-requires-4 c κs = search needs
 
 returns : tie.Need-returns
 returns c =
-    let s = c .before .before .before .before in
-    change-reset _ (s .pre .0 .deep) _ _ _ (c .before .before .before .flag .ensures) (c .change-of .ensures) (c .before .match .keys1)
+    let c3 = c .before .before .before in
+    let s = c3 .before in
+    change-reset _ (s .pre .0 .deep) _ _ _ (c3 .flag .ensures) (c .change-of .ensures) (c .before .match .keys1)
 
 returns-2 : tie.Need-returns-2
 returns-2 c =
-    let s = c .before .before .before .before in
-    change-push _ (s .pre .0 .deep) _ _ _ (ap (λ n. n + 1) (c .before .before .before .flag .ensures)) (c .change-of2 .ensures) (c .before .match .keys2)
+    let c3 = c .before .before .before in
+    let s = c3 .before in
+    change-push _ (s .pre .0 .deep) _ _ _ (ap (λ n. n + 1) (c3 .flag .ensures)) (c .change-of2 .ensures)
+    (c .before .match .keys2)
 
 returns-3 : tie.Need-returns-3
 returns-3 c =
@@ -50,21 +54,24 @@ returns-3 c =
 
 returns-4 : tie.Need-returns-4
 returns-4 c =
-    let s = c .before .before .before .before in
-    change-eswp _ (s .pre .0 .deep) _ _ (c .before .before .before .flag .ensures) (c .before .match .keys4)
+    let c3 = c .before .before .before in
+    let s = c3 .before in
+    change-eswp _ (s .pre .0 .deep) _ _ (c3 .flag .ensures) (c .before .match .keys4)
 
 returns-5 : tie.Need-returns-5
 returns-5 c =
-    let s = c .before .before .before .before .before in
+    let c4 = c .before .before .before .before in
+    let s = c4 .before in
     let r = c .before .before .match .rest in
     let zero : s .args .code ≡ 0 → ⊥ = λ e. r .0 .0 .0 .1 (inl e) in
-    change-flag _ (s .pre .0 .deep) _ _ _ (c .before .before .before .before .flag .ensures) (c .change-of3 .ensures) (omega arith) (c .before .if1 .taken)
+    change-flag _ (s .pre .0 .deep) _ _ _ (c4 .flag .ensures) (c .change-of3 .ensures) (omega arith) (c .before .if1 .taken)
 
 returns-6 : tie.Need-returns-6
 returns-6 c =
-    let s = c .before .before .before .before .before in
+    let c4 = c .before .before .before .before in
+    let s = c4 .before in
     let r = c .before .before .match .rest in
-    change-pop _ (s .pre .0 .deep) _ _ _ (c .before .before .before .before .flag .ensures) (c .change-of4 .ensures) (pops _ (c .before .if1 .left) (s .pre .1)
+    change-pop _ (s .pre .0 .deep) _ _ _ (c4 .flag .ensures) (c .change-of4 .ensures) (pops _ (c .before .if1 .left) (s .pre .1)
     (λ e. r .0 .0 .1 (inl e)) (λ e. r .0 .0 .1 (inr e)) (r .0 .1) (r .1) (λ e. r .0 .0 .0 .1 (inr e)))
 
 pub change-alone-spec : {M : Type 1} → statement M

@@ -20,8 +20,10 @@ change-of-requires c κs = search needs
 
 returns : tie.Need-returns
 returns c =
-    let s = c .before .before .before .before in
-    change-epush _ (s .pre .0 .deep) _ _ _ (ap (λ n. n + 1) (c .before .before .before .flag .ensures)) (c .change-of .ensures) (c .before .before .if1 .taken)
+    let c3 = c .before .before .before in
+    let s = c3 .before in
+    change-epush _ (s .pre .0 .deep) _ _ _ (ap (λ n. n + 1) (c3 .flag .ensures)) (c .change-of .ensures)
+    (c .before .before .if1 .taken)
 
 change-of-requires-2 : tie.Need-change-of-requires-2
 change-of-requires-2 c κs = search needs
@@ -29,7 +31,8 @@ change-of-requires-2 c κs = search needs
 returns-2 : tie.Need-returns-2
 returns-2 c =
     let s = c .before .before .before in
-    change-load _ (s .pre .0 .deep) _ _ _ (c .before .before .flag .ensures) (c .change-of2 .ensures) (s .pre .1 .0) (omega (arith, s .pre .1 .1, c .before .if1 .left))
+    change-load _ (s .pre .0 .deep) _ _ _ (c .before .before .flag .ensures) (c .change-of2 .ensures) (s .pre .1 .0)
+    (omega (arith, s .pre .1 .1, c .before .if1 .left))
 
 pub change-value-spec : {M : Type 1} → statement M
 change-value-spec =

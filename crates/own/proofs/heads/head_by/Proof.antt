@@ -21,7 +21,8 @@ of-cell-requires c κs =
 returns : tie.Need-returns
 returns c =
     let s = c .before .before .before .before in
-    (c .of-cell .ensures) ∙ head-low (shapeOf (s .args .shape)) _ (s .args .stack) (omega (arith, c .before .if1 .taken, c .before .before .vars .ensures))
+    (c .of-cell .ensures) ∙ head-low (shapeOf (s .args .shape)) _ (s .args .stack)
+    (omega (arith, c .before .if1 .taken, c .before .before .vars .ensures))
 
 enum-told : tie.Need-enum-told
 enum-told c = search needs
@@ -36,7 +37,9 @@ enum-told-2 c = search needs
 
 sub-t8 : tie.Need-sub-t8
 sub-t8 c =
-    omega (arith, c .before .before .before .if1 .left, c .before .before .before .before .vars .ensures)
+    let c3 = c .before .before .before in
+    let c4 = c3 .before in
+    omega (arith, c3 .if1 .left, c4 .vars .ensures)
 
 of-cell-requires-3 : tie.Need-of-cell-requires-3
 of-cell-requires-3 c κs =
@@ -48,8 +51,9 @@ enum-told-3 c = search needs
 
 row-after-requires : tie.Need-row-after-requires
 row-after-requires c κs =
-    let s = c .before .before .before .before .before in
-    (s .pre .0, (omega (arith, c .before .before .if1 .left, c .before .before .before .vars .ensures), s .pre .1))
+    let c3 = c .before .before .before in
+    let s = c3 .before .before in
+    (s .pre .0, (omega (arith, c .before .before .if1 .left, c3 .vars .ensures), s .pre .1))
 
 enum-told-4 : tie.Need-enum-told-4
 enum-told-4 c = search needs
@@ -61,8 +65,11 @@ returns-2 c =
 
 returns-3 : tie.Need-returns-3
 returns-3 c =
-    let s = c .before .before .before .before .before .before .before in
-    rw (c .before .before .enum-told2 .given .1) ((c .of-cell3 .ensures) ∙ head-pushed (shapeOf (s .args .shape)) _ (omega (arith, c .before .before .before .before .if1 .left, c .before .before .before .before .before .vars .ensures)))
+    let c4 = c .before .before .before .before in
+    let c5 = c4 .before in
+    let s = c5 .before .before in
+    rw (c .before .before .enum-told2 .given .1)
+    ((c .of-cell3 .ensures) ∙ head-pushed (shapeOf (s .args .shape)) _ (omega (arith, c4 .if1 .left, c5 .vars .ensures)))
 
 returns-4 : tie.Need-returns-4
 returns-4 c =
@@ -70,8 +77,10 @@ returns-4 c =
 
 returns-5 : tie.Need-returns-5
 returns-5 c =
-    let s = c .before .before .before .before .before in
-    rw (c .enum-told4 .given .1) (head-reset (shapeOf (s .args .shape)) _ (omega (arith, c .before .before .if1 .left, c .before .before .before .vars .ensures)))
+    let c3 = c .before .before .before in
+    let s = c3 .before .before in
+    rw (c .enum-told4 .given .1)
+    (head-reset (shapeOf (s .args .shape)) _ (omega (arith, c .before .before .if1 .left, c3 .vars .ensures)))
 
 pub head-by-spec : {M : Type 1} → statement M
 head-by-spec =

@@ -44,7 +44,8 @@ loop-less c = omega (arith, c .before .before .loop .inv .size, c .before .loop-
 loop-again : tie.Need-loop-again Inv-loop μ-loop
 loop-again c =
     let s = c .before .before .before .before in
-    heads-more (shapeOf (s .args .shape)) (s .args .stack) _ (s .pre .1) _ _ _ (c .before .before .loop .inv) (c .before .loop-test .taken) (c .head-by .ensures)
+    heads-more (shapeOf (s .args .shape)) (s .args .stack) _ (s .pre .1) _ _ _ (c .before .before .loop .inv)
+    (c .before .loop-test .taken) (c .head-by .ensures)
 
 same-length : tie.Need-same-length Inv-loop μ-loop
 same-length c = c .before .loop .inv .size

@@ -25,8 +25,9 @@ mul-made c = search needs
 
 slice-write-made : tie.Need-slice-write-made
 slice-write-made c =
-    let s = c .before .before .before .before .before .before .before in
-    omega (arith, c .before .before .before .before .move-heads .kept .1 .1 .0, s .pre .1 .0, s .pre .1 .1 .1)
+    let c4 = c .before .before .before .before in
+    let s = c4 .before .before .before in
+    omega (arith, c4 .move-heads .kept .1 .1 .0, s .pre .1 .0, s .pre .1 .1 .1)
 
 cast-main : tie.Need-cast-main
 cast-main c = search needs
@@ -36,16 +37,19 @@ mul-made-2 c = search needs
 
 slice-write-made-2 : tie.Need-slice-write-made-2
 slice-write-made-2 c =
-    let s = c .before .before .before .before .before .before .before .before in
-    rw length-set (omega (arith, c .before .before .before .before .before .move-heads .kept .1 .1 .0, s .pre .1 .0, s .pre .1 .1 .2))
+    let c5 = c .before .before .before .before .before in
+    let s = c5 .before .before .before in
+    rw length-set (omega (arith, c5 .move-heads .kept .1 .1 .0, s .pre .1 .0, s .pre .1 .1 .2))
 
 same-length : tie.Need-same-length
 same-length c = search needs
 
 returns : tie.Need-returns
 returns c =
-    let s = c .before .before .before .before .before .before .before .before in
-    put-changed (shapeOf (s .args .shape)) (s .args .change) _ _ _ (c .before .before .before .before .before .move-heads .ensures) (c .before .before .of-cell .ensures)
+    let c5 = c .before .before .before .before .before in
+    let s = c5 .before .before .before in
+    put-changed (shapeOf (s .args .shape)) (s .args .change) _ _ _ (c5 .move-heads .ensures)
+    (c .before .before .of-cell .ensures)
 
 pub put-heads-spec : {M : Type 1} → statement M
 put-heads-spec =

@@ -28,13 +28,16 @@ of-cell-requires c κs =
 
 returns : tie.Need-returns
 returns c =
-    let s = c .before .before .before .before .before in
-    (c .of-cell .ensures) ∙ head-popped (shapeOf (s .args .shape)) _ (s .pre .1 .0) (omega (arith, c .before .before .if1 .taken, c .before .before .before .cells .ensures))
+    let c3 = c .before .before .before in
+    let s = c3 .before .before in
+    (c .of-cell .ensures) ∙ head-popped (shapeOf (s .args .shape)) _ (s .pre .1 .0)
+    (omega (arith, c .before .before .if1 .taken, c3 .cells .ensures))
 
 returns-2 : tie.Need-returns-2
 returns-2 c =
     let s = c .before .before .before in
-    head-last (shapeOf (s .args .shape)) _ (s .pre .1 .0) (s .pre .1 .1) (omega (arith, c .if1 .left, c .before .cells .ensures))
+    head-last (shapeOf (s .args .shape)) _ (s .pre .1 .0) (s .pre .1 .1)
+    (omega (arith, c .if1 .left, c .before .cells .ensures))
 
 pub row-after-spec : {M : Type 1} → statement M
 row-after-spec =

@@ -17,57 +17,81 @@ of-cell-requires c κs =
 
 add-requires : tie.Need-add-requires
 add-requires c κs =
-    let s = c .before .before .before .before .before in
-    opposite-addable _ (s .pre .0) (s .args .code) _ (c .before .before .before .flag .ensures) _ (c .before .before .of-cell .ensures)
+    let c3 = c .before .before .before in
+    let s = c3 .before .before in
+    opposite-addable _ (s .pre .0) (s .args .code) _ (c3 .flag .ensures) _ (c .before .before .of-cell .ensures)
 
 same-length : tie.Need-same-length
 same-length c = search needs
 
 returns : tie.Need-returns
 returns c =
-    let s = c .before .before .before .before .before .before .before .before in
-    row-not _ (s .pre .0) (s .args .code) _ (c .before .before .before .before .before .before .flag .ensures) _ (c .before .before .before .before .before .of-cell .ensures) (c .before .before .before .before .if1 .taken) _ _ (c .before .before .add .ensures) (c .before .before .add .kept .0)
+    let c4 = c .before .before .before .before in
+    let c5 = c4 .before in
+    let c6 = c5 .before in
+    let s = c6 .before .before in
+    row-not _ (s .pre .0) (s .args .code) _ (c6 .flag .ensures) _ (c5 .of-cell .ensures) (c4 .if1 .taken) _ _
+    (c .before .before .add .ensures) (c .before .before .add .kept .0)
 
 add-t12 : tie.Need-add-t12
 add-t12 c =
-    let s = c .before .before .before .before .before in
-    omega (arith, s .pre .0 .inside .most, (c .before .before .before .flag .ensures))
+    let c3 = c .before .before .before in
+    let s = c3 .before .before in
+    omega (arith, s .pre .0 .inside .most, (c3 .flag .ensures))
 
 of-cell-requires-2 : tie.Need-of-cell-requires-2
 of-cell-requires-2 c κs =
-    let s = c .before .before .before .before .before in
-    omega (arith, s .pre .0 .inside .most, (c .before .before .before .flag .ensures))
+    let c3 = c .before .before .before in
+    let s = c3 .before .before in
+    omega (arith, s .pre .0 .inside .most, (c3 .flag .ensures))
 
 add-requires-2 : tie.Need-add-requires-2
 add-requires-2 c κs =
-    let s = c .before .before .before .before .before .before .before .before in
-    top-addable _ (s .pre .0) (s .args .code) _ (c .before .before .before .before .before .before .flag .ensures) _ (c .before .before .before .before .before .of-cell .ensures) _ (c .before .before .of-cell2 .ensures) _
+    let c5 = c .before .before .before .before .before in
+    let c6 = c5 .before in
+    let s = c6 .before .before in
+    top-addable _ (s .pre .0) (s .args .code) _ (c6 .flag .ensures) _ (c5 .of-cell .ensures) _
+    (c .before .before .of-cell2 .ensures) _
 
 same-length-2 : tie.Need-same-length-2
 same-length-2 c = search needs
 
 returns-2 : tie.Need-returns-2
 returns-2 c =
-    let s = c .before .before .before .before .before .before .before .before .before .before .before in
-    row-tand _ (s .pre .0) (s .args .code) _ (c .before .before .before .before .before .before .before .before .before .flag .ensures) _ (c .before .before .before .before .before .before .before .before .of-cell .ensures) _ (c .before .before .before .before .before .of-cell2 .ensures) (c .before .before .before .before .if2 .taken) _ _ (c .before .before .add2 .ensures) (c .before .before .add2 .kept .0)
+    let c4 = c .before .before .before .before in
+    let c5 = c4 .before in
+    let c8 = c5 .before .before .before in
+    let c9 = c8 .before in
+    let s = c9 .before .before in
+    row-tand _ (s .pre .0) (s .args .code) _ (c9 .flag .ensures) _ (c8 .of-cell .ensures) _ (c5 .of-cell2 .ensures)
+    (c4 .if2 .taken) _ _ (c .before .before .add2 .ensures) (c .before .before .add2 .kept .0)
 
 add-requires-3 : tie.Need-add-requires-3
 add-requires-3 c κs =
-    let s = c .before .before .before .before .before .before .before .before .before in
-    top-addable _ (s .pre .0) (s .args .code) _ (c .before .before .before .before .before .before .before .flag .ensures) _ (c .before .before .before .before .before .before .of-cell .ensures) _ (c .before .before .before .of-cell2 .ensures) _
+    let c3 = c .before .before .before in
+    let c6 = c3 .before .before .before in
+    let c7 = c6 .before in
+    let s = c7 .before .before in
+    top-addable _ (s .pre .0) (s .args .code) _ (c7 .flag .ensures) _ (c6 .of-cell .ensures) _ (c3 .of-cell2 .ensures) _
 
 same-length-3 : tie.Need-same-length-3
 same-length-3 c = search needs
 
 returns-3 : tie.Need-returns-3
 returns-3 c =
-    let s = c .before .before .before .before .before .before .before .before .before .before .before .before in
-    row-tor _ (s .pre .0) (s .args .code) _ (c .before .before .before .before .before .before .before .before .before .before .flag .ensures) _ (c .before .before .before .before .before .before .before .before .before .of-cell .ensures) _ (c .before .before .before .before .before .before .of-cell2 .ensures) (c .before .before .before .before .if3 .taken) _ _ (c .before .before .add3 .ensures) (c .before .before .add3 .kept .0)
+    let c4 = c .before .before .before .before in
+    let c6 = c4 .before .before in
+    let c9 = c6 .before .before .before in
+    let c10 = c9 .before in
+    let s = c10 .before .before in
+    row-tor _ (s .pre .0) (s .args .code) _ (c10 .flag .ensures) _ (c9 .of-cell .ensures) _ (c6 .of-cell2 .ensures)
+    (c4 .if3 .taken) _ _ (c .before .before .add3 .ensures) (c .before .before .add3 .kept .0)
 
 row-moved-requires : tie.Need-row-moved-requires
 row-moved-requires c κs =
-    let s = c .before .before .before .before .before .before .before .before in
-    (s .pre .0 .inside, (s .pre .1, λ h. omega (arith, (c .before .before .before .before .if1 .left), (c .before .if2 .left), (c .if3 .left))))
+    let c4 = c .before .before .before .before in
+    let s = c4 .before .before .before .before in
+    (s .pre .0 .inside, (s .pre .1, λ h. omega (arith, (c4 .if1 .left), (c .before .if2 .left), (c .if3 .left))))
 
 returns-4 : tie.Need-returns-4
 returns-4 c =

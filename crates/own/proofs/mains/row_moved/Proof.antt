@@ -47,17 +47,20 @@ returns-2 c =
 
 returns-3 : tie.Need-returns-3
 returns-3 c =
-    main-second _ _ _ _ (c .before .before .before .flag .ensures) (c .of-cell2 .ensures) (c .before .before .match .keys3)
+    let c3 = c .before .before .before in
+    main-second _ _ _ _ (c3 .flag .ensures) (c .of-cell2 .ensures) (c .before .before .match .keys3)
 
 returns-4 : tie.Need-returns-4
 returns-4 c =
-    let s = c .before .before .before .before in
+    let c3 = c .before .before .before in
+    let s = c3 .before in
     let r = (c .before .before .match .rest) in
     let zero : s .args .code ≡ 0 → ⊥ = λ e. r .0 .0 .1 (inl e) in
     let ten : s .args .code ≡ 10 → ⊥ = λ e. r .0 .0 .1 (inr e) in
     let four : s .args .code ≡ 4 → ⊥ = λ e. r .0 .1 (inl e) in
     let past : 4 ≤ s .args .code = s .pre .1 .1 (omega arith) in
-    main-top _ _ _ _ (c .before .before .before .flag .ensures) (c .of-cell3 .ensures) (omega arith) (omega (arith, s .pre .1 .0, r .1)) (λ e. r .0 .1 (inr e))
+    main-top _ _ _ _ (c3 .flag .ensures) (c .of-cell3 .ensures) (omega arith) (omega (arith, s .pre .1 .0, r .1))
+    (λ e. r .0 .1 (inr e))
 
 pub row-moved-spec : {M : Type 1} → statement M
 row-moved-spec =
