@@ -1,7 +1,4 @@
--- What adding the rows of an expression, and making an instruction's own set, ask for and leave.
-pub mod Made
-pub mod Spelling
-pub mod SpellLaws
+-- What making an instruction's own set asks for and leaves.
 pub mod Changes
 pub mod ChangeLaws
 pub mod Mains

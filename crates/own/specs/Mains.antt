@@ -24,10 +24,10 @@ use Rattle.rows.specs.Making.{Open}
 use Rattle.rows.specs.declared.node.Node.the-variants.{Not, Two}
 use Rattle.rows.specs.declared.table.Table.{Table}
 use Rattle.rows.specs.declared.table.Added.{Added}
-use Rattle.own.specs.declared.expression.Grown.{Grown}
-use Rattle.own.specs.Made.{Made, made-simple, not-addable, made-not, two-addable, made-two}
-use Rattle.own.specs.Spelling.{Spelling, Spells}
-use Rattle.own.specs.SpellLaws.{reads-over}
+use Rattle.spell.specs.declared.expression.Grown.{Grown}
+use Rattle.spell.specs.Made.{Made, made-simple, not-addable, made-not, two-addable, made-two}
+use Rattle.spell.specs.Spelling.{Spelling, Spells}
+use Rattle.spell.specs.SpellLaws.{reads-over}
 use Rattle.own.specs.Changes.{Inside, placeOf, mainOf}
 use Rattle.own.specs.ChangeLaws.{put-here, stack-below, pushed-here}
 

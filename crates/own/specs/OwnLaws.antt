@@ -23,7 +23,7 @@ use Rattle.program.specs.Standing.{Standing, programIn, instrAt, deep, most-cel
 use Rattle.rows.specs.declared.table.Table.{Table}
 use Rattle.rows.specs.declared.table.Added.{Added}
 use Rattle.own.specs.declared.heads.Change.{Change}
-use Rattle.own.specs.Made.{Made}
+use Rattle.spell.specs.Made.{Made}
 use Rattle.own.specs.Changes.{Inside, placeOf, mainOf, movedBy, movedHeads, restBy, changed, Changes}
 use Rattle.own.specs.ChangeLaws.{put-here, put-other, rest-simple}
 use Rattle.own.specs.Mains.{Given}

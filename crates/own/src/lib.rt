@@ -1,5 +1,4 @@
 // An instruction's own set: the rows of its main expression added to a table, and the heads (R37).
-pub mod expression;
 pub mod heads;
 pub mod mains;
 

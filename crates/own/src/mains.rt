@@ -1,5 +1,4 @@
 // The row of an instruction's main expression, the only one that can be no constant and no cell (R17 to R19, R37).
-use crate::expression::add_expression;
 use base::kinds::Cell;
 use base::kinds::Row;
 use base::shape::Shape;
@@ -7,6 +6,7 @@ use rows::node::Node;
 use rows::table::Added;
 use rows::table::Table;
 use rows::table::add;
+use spell::expression::add_expression;
 ghost use Prim.Native.Nat.{_+_, _≤_, _<_};
 ghost use Rattle.base.specs.Answers.{shapeOf};
 ghost use Rattle.rules.specs.Expr.{Exp, Read};
@@ -14,7 +14,7 @@ ghost use Rattle.rules.specs.Shape.{vars, cells};
 ghost use Rattle.program.specs.Codes.{aloneOf, onExpr, onVariable};
 ghost use Rattle.program.specs.Contracts.{farthest};
 ghost use Rattle.program.specs.Reading.{Reads, Legible};
-ghost use Rattle.own.specs.Made.{Made};
+ghost use Rattle.spell.specs.Made.{Made};
 ghost use Rattle.own.specs.Changes.{Inside, mainOf};
 ghost use Rattle.own.specs.Mains.{Given, MainRow};
 

@@ -7,7 +7,7 @@ use rows::table::Table;
 use rows::table::add;
 ghost use mathlib.Core.Path.{_≡_};
 ghost use Prim.Native.Nat.{_<_};
-ghost use Rattle.own.specs.Spelling.{leafRow, Spelling, Spells};
+ghost use Rattle.spell.specs.Spelling.{leafRow, Spelling, Spells};
 
 // The row of an expression with the table after it was added, and the place after the expression.
 pub struct Grown {

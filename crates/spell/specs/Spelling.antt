@@ -8,8 +8,8 @@ use Rattle.rules.specs.Expr.{Exp, Read}
 use Rattle.program.specs.Reading.{Reads, Legible}
 use Rattle.rows.specs.Making.{Open}
 use Rattle.rows.specs.declared.table.Table.{Table}
-use Rattle.own.specs.declared.expression.Grown.{Grown}
-use Rattle.own.specs.Made.{Made}
+use Rattle.spell.specs.declared.expression.Grown.{Grown}
+use Rattle.spell.specs.Made.{Made}
 
 -- R11, R26: the row of the variable or constant that a byte below 252 is.
 abbrev pub leafRow : ℕ → ℕ

@@ -21,9 +21,9 @@ use Rattle.rows.specs.Table.{Addable, Adds}
 use Rattle.rows.specs.declared.node.Node.the-variants.{Not, Two}
 use Rattle.rows.specs.declared.table.Table.{Table}
 use Rattle.rows.specs.declared.table.Added.{Added}
-use Rattle.own.specs.declared.expression.Grown.{Grown}
-use Rattle.own.specs.Made.{made-simple, open-after, not-addable, made-not, two-addable, made-two}
-use Rattle.own.specs.Spelling.{leafRow, Spelling, Spells}
+use Rattle.spell.specs.declared.expression.Grown.{Grown}
+use Rattle.spell.specs.Made.{made-simple, open-after, not-addable, made-not, two-addable, made-two}
+use Rattle.spell.specs.Spelling.{leafRow, Spelling, Spells}
 
 -- R11: an expression that was read names only cells that there are.
 pub reads-over : {file : List ℕ} {v stop p : ℕ} {x : Read Exp} (C : ℕ) → v ≤ C → Reads file v stop p x → Over C (x .got)

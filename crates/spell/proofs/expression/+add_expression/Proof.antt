@@ -1,5 +1,5 @@
 -- `add_expression` meets its contract: what is left to read falls at each call of itself.
-use Rattle.own.specs.SpellLaws.{spell-leaf, operand-spelling, second-spelling, spell-addable, spell-not, both-addable, spell-two}
+use Rattle.spell.specs.SpellLaws.{spell-leaf, operand-spelling, second-spelling, spell-addable, spell-not, both-addable, spell-two}
 use Rattle.program.specs.Reading.{read-before, read-inside, second-later}
 use borrow.Author.Needs.{needs}
 use lib.ListN.{getD}
@@ -8,13 +8,13 @@ use native.Mathlib.Omega.{arith}
 use Prim.Native.Nat.{ℕ, _<_}
 use borrow.Fn.Kinds.{In}
 use borrow.Fn.PlainCycle.{Measures, is, falls, and}
-use Rattle.own.proofs.expression.add_expression.Reads as add-expression
-use Rattle.own.proofs.expression.add_expression.Kinds as add-expression-kinds
-use Rattle.own.proofs.expression.+add_expression.Lts-add_expression as add-expression-lts
-use Rattle.own.proofs.expression.leaf_row.Reads as leaf-row-reads
+use Rattle.spell.proofs.expression.add_expression.Reads as add-expression
+use Rattle.spell.proofs.expression.add_expression.Kinds as add-expression-kinds
+use Rattle.spell.proofs.expression.+add_expression.Lts-add_expression as add-expression-lts
+use Rattle.spell.proofs.expression.leaf_row.Reads as leaf-row-reads
 use Rattle.rows.proofs.table.add.Reads as add-reads
-use Rattle.own.proofs.expression.+add_expression.{statement}
-use Rattle.own.proofs.expression.+add_expression.Tie.{close}
+use Rattle.spell.proofs.expression.+add_expression.{statement}
+use Rattle.spell.proofs.expression.+add_expression.Tie.{close}
 
 abbrev μ-add-expression : Measures 2 add-expression-kinds.ps ℕ
 μ-add-expression κs a = a .1 .1 .0 - a .1 .1 .1 .0

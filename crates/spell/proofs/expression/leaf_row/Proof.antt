@@ -3,8 +3,8 @@ use mathlib.Core.Path.{refl}
 use borrow.Author.Tests.{lt-ltb, le-ltb}
 use native.Mathlib.Omega.{arith}
 use borrow.Author.Needs.{needs}
-use Rattle.own.proofs.expression.leaf_row.Statement.{statement}
-use Rattle.own.proofs.expression.leaf_row.Tie as tie
+use Rattle.spell.proofs.expression.leaf_row.Statement.{statement}
+use Rattle.spell.proofs.expression.leaf_row.Tie as tie
 
 of-byte-requires : tie.Need-of-byte-requires
 of-byte-requires c κs = search needs
