@@ -201,7 +201,6 @@ module _ (file : List ℕ) (sh : Shape) (n i : ℕ) (rows : List ℕ) (s : Table
         low = rw is at h;
         opened = record { table = b .tab; canonical = rw (place .shaped) (made-on .canonical); holds = w .built-on .holds };
         count = w .count;
-        stub = ?;
       }
 
       module _ (rows′ : List ℕ) (s′ : Table) (made′ : List ℕ) (g : Owns (shapeOf sh) (ownOf (instrAt file i)) rows s rows′ s′ made′) where

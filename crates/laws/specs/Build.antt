@@ -62,7 +62,7 @@ addExp-sound {t = t} w (bin o x y) h =
 
 -- ---- the table of effects names only cells
 
-over-more : (v k : ℕ) (x : Exp) → v ≤ k → Over v x → Over k x
+pub over-more : (v k : ℕ) (x : Exp) → v ≤ k → Over v x → Over k x
 over-more v k (con b) h o = tt
 over-more v k (cell c) h o = omega arith
 over-more v k (neg x) h o = over-more v k x h o

@@ -15,6 +15,7 @@ pub mod Search
 pub mod After
 pub mod Choice
 pub mod Build
+pub mod Own
 pub mod Transfer
 pub mod Squeeze
 pub mod Named

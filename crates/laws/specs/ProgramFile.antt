@@ -53,7 +53,7 @@ operands-over v (two o) p rec h ih = grants-bind (ih (suc p)) λ x e. grants-bin
 operands-over v bad p rec h ih = refuses
 
 -- An expression that was read has all its cells below v.
-expr-over : (k : ℕ) (file : List ℕ) (v stop p : ℕ) → Grants (λ r. Over v (r .got)) (readExpr k file v stop p)
+pub expr-over : (k : ℕ) (file : List ℕ) (v stop p : ℕ) → Grants (λ r. Over v (r .got)) (readExpr k file v stop p)
 unfolding readExpr
 expr-over zero file v stop p = refuses
 expr-over (suc k) file v stop p =
