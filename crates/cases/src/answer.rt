@@ -1,21 +1,21 @@
 // Reads the next case and answers it.
+use crate::new_set::build_case;
 use crate::new_set::compose_case;
 use crate::new_set::unchanging_case;
 use crate::one_file::check_case;
 use crate::one_file::storage_case;
-use harness::pass_over;
 use harness::show::cut;
 ghost use Prim.Native.Nat.{_≤_};
 ghost use lib.ListN.{length};
 
-// The case whose operation was read. Operation 3 is read past.
+// The case whose operation was read.
 fn run_operation(operation: u8, file: &mut [u8], cells: &mut [u8]) -> bool
     requires { ⌜ length (now cells) ≤ 4096 ⌝ }
 {
     match operation {
         1 => check_case(false, file),
         2 => storage_case(false, file, cells),
-        3 => pass_over(1, 4, b"not yet\n"),
+        3 => build_case(file),
         4 => check_case(true, file),
         5 => storage_case(true, file, cells),
         6 => compose_case(file),

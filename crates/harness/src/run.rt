@@ -14,6 +14,8 @@ use base::shape::Shape;
 use base::work::fill_bytes;
 use base::work::fill_numbers;
 use base::work::fill_rows;
+use build::Built;
+use build::build;
 use compose::Composed;
 use compose::compose;
 use evaluate::evaluate;
@@ -60,6 +62,39 @@ pub fn evaluate_kept(file: &[u8], cells: &mut [u8], before: &mut [u8], values: &
         Evaluated::Done => say_storage(cells),
         Evaluated::Refused(x) => refused_on(x, cells, before),
     }
+}
+
+// Shows what building left in the output.
+fn show_built(r: Built, out: &[u8]) -> bool {
+    match r {
+        Built::Length(n) => say_wrote(n, out, 165),
+        Built::Refused(x) => refused_output(x, b"\n", out, 165),
+    }
+}
+
+// Builds, and tests what is left of the work.
+pub fn build_shown(
+    file: &[u8],
+    rows: &mut [u64],
+    numbers: &mut [u16],
+    heads: &mut [u16],
+    out: &mut [u8],
+) -> bool {
+    fill_rows(rows, 0xa5a5a5a5a5a5a5a5);
+    fill_numbers(numbers, 0xa5a5);
+    fill_numbers(heads, 0xa5a5);
+    fill_bytes(out, 165);
+    let r = build(file, rows, numbers, heads, out);
+    if !rows_are(rows, 0) {
+        return broken();
+    }
+    if !numbers_are(numbers, 0) {
+        return broken();
+    }
+    if !numbers_are(heads, 0) {
+        return broken();
+    }
+    show_built(r, out)
 }
 
 // Shows what composing left in the output.
