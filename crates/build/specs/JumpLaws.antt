@@ -1,9 +1,8 @@
 -- Jumps and calls by their codes: a law for each (R38).
-use Prim.Native.Nat.{ℕ, zero, suc, _+_, _-_, _*_, _≤_, _<_}
-use mathlib.Core.Path.{_≡_, refl, ap, sym, _∙_}
+use Prim.Native.Nat.{ℕ, zero, suc, _+_, _-_, _≤_, _<_}
+use mathlib.Core.Path.{_≡_, refl, _∙_}
 use mathlib.Core.List.{List}
 use native.Mathlib.Omega.{arith}
-use native.Mathlib.Nat.{mul-le-mul-right, mul-comm}
 use lib.ListN.{length}
 use Rattle.rules.specs.Edition.{old}
 use Rattle.rules.specs.Shape.{Shape, cells, vars, flag}
@@ -14,10 +13,9 @@ use Rattle.laws.specs.Shape.{shape-limits}
 use Rattle.laws.specs.Grow.{grown-ext}
 use Rattle.laws.specs.After.{Stands, over, stands-ext, after-acts, after-grown}
 use Rattle.program.specs.Codes.{onLabel}
-use Rattle.rows.specs.Making.{Drawn}
 use Rattle.rows.specs.declared.table.Table.{Table}
 use Rattle.choice.specs.Choosing.{Choosing, Chooses}
-use Rattle.rewrite.specs.Follow.{Following, Follows}
+use Rattle.rewrite.specs.Follow.{Follows}
 use Rattle.build.specs.Turning.{jumped, Jumping, Jumps}
 
 -- R38: the turn of a jump or call is what its code makes of T(l) and T(i+1).

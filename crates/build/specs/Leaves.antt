@@ -1,12 +1,12 @@
 -- The constants and cells put in their rows, one a turn (R26).
 use Prim.Native.Nat.{ℕ, _+_, _≤_, _<_}
-use mathlib.Core.Path.{_≡_, ap, _∙_}
+use mathlib.Core.Path.{_≡_, _∙_}
 use mathlib.Core.List.{List}
 use native.Mathlib.Omega.{arith}
 use native.Mathlib.Decide.{decLt}
 use lib.ListN.{length, getD, set, length-set}
 use lib.Seq.{getD-set-same, getD-set-other}
-use Rattle.rules.specs.Rows.{leaf, base, rowAt}
+use Rattle.rules.specs.Rows.{leaf, base}
 use Rattle.laws.specs.Rows.{length-base}
 use Rattle.laws.specs.Rule.{base-canonical}
 use Rattle.rows.specs.Entries.{entry, Narrow}

@@ -2,7 +2,7 @@
 use Prim.Native.Nat.{ℕ, suc, _+_, _-_, _*_, _≤_, _<_}
 use mathlib.Core.Path.{_≡_, refl, sym, ap, _∙_}
 use mathlib.Core.Bool.{true, false}
-use mathlib.Core.List.{List, [], _∷_}
+use mathlib.Core.List.{List, _∷_}
 use native.Mathlib.Omega.{arith}
 use native.Mathlib.Decide.{decLt}
 use lib.ListN.{length, getD}
@@ -12,7 +12,6 @@ use Rattle.rules.specs.Edition.{old}
 use Rattle.rules.specs.Shape.{vars, cells, checkShape}
 use Rattle.rules.specs.Instr.{Plain, INIT, Instr, plain, END}
 use Rattle.rules.specs.ProgramFile.{Program, bodyAt}
-use Rattle.rules.specs.Rows.{Row}
 use Rattle.rules.specs.Sets.{Heads}
 use Rattle.rules.specs.Build as B
 use Rattle.rules.specs.Build.{own, setAt, turnHeads, turn}
@@ -30,7 +29,7 @@ use Rattle.base.specs.declared.kinds.Instr as K
 use Rattle.program.specs.Contracts.{farthest}
 use Rattle.program.specs.Codes.{aloneOf, onVariable, onLabel}
 use Rattle.program.specs.Standing.{programIn, instrAt, Standing, standing-at, formed, deep, tells, with-value, with-variable, goes, later}
-use Rattle.rows.specs.Making.{Open, Drawn}
+use Rattle.rows.specs.Making.{Drawn}
 use Rattle.rows.specs.declared.table.Table.{Table}
 use Rattle.own.specs.Owning.{ownOf, Owning, Owns}
 use Rattle.rewrite.specs.Follow.{Following, Follows}

@@ -4,12 +4,9 @@ use mathlib.Core.Path.{_≡_}
 use mathlib.Core.Bool.{false}
 use mathlib.Core.List.{List, [], _∷_}
 use lib.ListN.{length, getD, take, drop}
-use Rattle.rules.specs.Verdict.{granted}
-use Rattle.rules.specs.Edition.{old}
 use Rattle.rules.specs.Shape as R
-use Rattle.rules.specs.Shape.{cells, flag, checkShape}
-use Rattle.rules.specs.Rows.{Row, rowOfCell}
-use Rattle.rules.specs.Instr.{Instr, JP, END}
+use Rattle.rules.specs.Shape.{cells, flag}
+use Rattle.rules.specs.Rows.{rowOfCell}
 use Rattle.rules.specs.Sets.{Heads, after, choice}
 use Rattle.rules.specs.Build as B
 use Rattle.rules.specs.Build.{setAt, turnHeads, turns}
@@ -18,7 +15,6 @@ use Rattle.laws.specs.After.{Stands, over}
 use Rattle.base.specs.Answers.{shapeOf}
 use Rattle.base.specs.declared.shape.Shape.{Shape}
 use Rattle.program.specs.Standing.{programIn, instrAt, Standing}
-use Rattle.program.specs.Codes.{onLabel}
 use Rattle.rows.specs.Table.{Holds}
 use Rattle.rows.specs.Making.{Drawn}
 use Rattle.rows.specs.declared.table.Table.{Table}

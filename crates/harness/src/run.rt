@@ -64,6 +64,17 @@ pub fn evaluate_kept(file: &[u8], cells: &mut [u8], before: &mut [u8], values: &
     }
 }
 
+// Fills rows and numbers with a pattern.
+fn fill_work(rows: &mut [u64], numbers: &mut [u16]) {
+    fill_rows(rows, 0xa5a5a5a5a5a5a5a5);
+    fill_numbers(numbers, 0xa5a5);
+}
+
+// Whether rows and numbers are zero.
+fn work_is_zero(rows: &[u64], numbers: &[u16]) -> bool {
+    rows_are(rows, 0) && numbers_are(numbers, 0)
+}
+
 // Shows what building left in the output.
 fn show_built(r: Built, out: &[u8]) -> bool {
     match r {
@@ -80,15 +91,11 @@ pub fn build_shown(
     heads: &mut [u16],
     out: &mut [u8],
 ) -> bool {
-    fill_rows(rows, 0xa5a5a5a5a5a5a5a5);
-    fill_numbers(numbers, 0xa5a5);
+    fill_work(rows, numbers);
     fill_numbers(heads, 0xa5a5);
     fill_bytes(out, 165);
     let r = build(file, rows, numbers, heads, out);
-    if !rows_are(rows, 0) {
-        return broken();
-    }
-    if !numbers_are(numbers, 0) {
+    if !work_is_zero(rows, numbers) {
         return broken();
     }
     if !numbers_are(heads, 0) {
@@ -115,14 +122,10 @@ pub fn compose_shown(
     numbers: &mut [u16],
     out: &mut [u8],
 ) -> bool {
-    fill_rows(rows, 0xa5a5a5a5a5a5a5a5);
-    fill_numbers(numbers, 0xa5a5);
+    fill_work(rows, numbers);
     fill_bytes(out, 165);
     let r = compose(first, second, rows, numbers, out);
-    if !rows_are(rows, 0) {
-        return broken();
-    }
-    if !numbers_are(numbers, 0) {
+    if !work_is_zero(rows, numbers) {
         return broken();
     }
     show_composed(r, out)

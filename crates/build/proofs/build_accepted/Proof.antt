@@ -2,36 +2,22 @@ use Rattle.build.specs.Answer.{rows-short, numbers-short, heads-short}
 use Rattle.build.specs.Slots.{slot-most}
 use Rattle.program.specs.Standing.{header-there, standing, most-cells}
 use native.Mathlib.Omega.{arith}
-use Prim.Native.Nat.{ℕ, _*_}
-use mathlib.Core.Path.{ap, sym, _∙_}
 use borrow.Author.Needs.{needs}
 use Rattle.build.proofs.build_accepted.Statement.{statement}
 use Rattle.build.proofs.build_accepted.Tie as tie
-use Rattle.build.proofs.build_accepted.Reads as reads
-use Rattle.build.proofs.build_accepted.Lts as lts
-use Rattle.base.proofs.bytes.word.Reads as word-reads
-use Rattle.base.proofs.shape.Shape.cells.Reads as cells-reads
-use Rattle.build.proofs.build_program.Reads as build-program-reads
-use Rattle.program.proofs.header.shape_at.Reads as shape-at-reads
-use Rattle.rows.proofs.table.room_in.Reads as room-in-reads
 
--- src/lib.rt:92:9
 shape-at-requires : tie.Need-shape-at-requires
 shape-at-requires c κs = header-there _ (c .before .before .before .before .before .pre)
 
--- src/lib.rt:93:9
 cells-requires : tie.Need-cells-requires
 cells-requires c κs = search needs
 
--- src/lib.rt:94:9
 word-requires : tie.Need-word-requires
 word-requires c κs = omega (arith, header-there _ (c .before .before .before .before .before .before .before .pre))
 
--- src/lib.rt:95:21
 add-if1 : tie.Need-add-if1
 add-if1 c = search needs
 
--- src/lib.rt:96:9
 returns : tie.Need-returns
 returns c =
     let c1 = c .before in
@@ -41,11 +27,9 @@ returns c =
     let s = standing _ (c9 .pre) (c3 .shape-at .result) (c3 .shape-at .ensures) _ (c1 .word .ensures .0) in
     rows-short _ _ _ _ _ _ _ s (omega (arith, c .if1 .taken, c2 .cells .ensures))
 
--- src/lib.rt:98:24
 room-in-requires : tie.Need-room-in-requires
 room-in-requires c κs = search needs
 
--- src/lib.rt:99:9
 returns-2 : tie.Need-returns-2
 returns-2 c =
     let c1 = c .before in
@@ -57,7 +41,6 @@ returns-2 c =
     let s = standing _ (c11 .pre) (c5 .shape-at .result) (c5 .shape-at .ensures) _ (c3 .word .ensures .0) in
     numbers-short _ _ _ _ _ _ _ s (omega (arith, c2 .if1 .left, c4 .cells .ensures)) (omega (arith, c .if2 .taken, c1 .room-in .ensures))
 
--- src/lib.rt:101:22
 mul-if3 : tie.Need-mul-if3
 mul-if3 c =
     let c3 = c .before .before .before in
@@ -67,7 +50,6 @@ mul-if3 c =
     let s = standing _ (c11 .pre) (c5 .shape-at .result) (c5 .shape-at .ensures) _ (c3 .word .ensures .0) in
     omega (arith, slot-most (c3 .word .result) (c4 .cells .result) (s .most) (omega (arith, most-cells _ _ _ _ s, c4 .cells .ensures)))
 
--- src/lib.rt:102:9
 returns-3 : tie.Need-returns-3
 returns-3 c =
     let c1 = c .before in
@@ -81,7 +63,6 @@ returns-3 c =
     heads-short _ _ _ _ _ _ _ s (omega (arith, c3 .if1 .left, c5 .cells .ensures)) (omega (arith, c1 .if2 .left, c2 .room-in .ensures))
     (rw (c5 .cells .ensures) at (c .if3 .taken))
 
--- src/lib.rt:104:5
 build-program-requires : tie.Need-build-program-requires
 build-program-requires c κs =
     let c4 = c .before .before .before .before in
@@ -100,23 +81,18 @@ build-program-requires c κs =
       heads-lent = rw (c9 .cells .ensures) at (c4 .if3 .left);
     }
 
--- src/lib.rt:80:1
 same-length : tie.Need-same-length
 same-length c = search needs
 
--- src/lib.rt:80:1
 same-length-2 : tie.Need-same-length-2
 same-length-2 c = search needs
 
--- src/lib.rt:80:1
 same-length-3 : tie.Need-same-length-3
 same-length-3 c = search needs
 
--- src/lib.rt:80:1
 same-length-4 : tie.Need-same-length-4
 same-length-4 c = search needs
 
--- src/lib.rt:80:1
 returns-4 : tie.Need-returns-4
 returns-4 c = search needs
 

@@ -2,62 +2,46 @@ use Rattle.build.specs.Answer.{builds-length, builds-refused}
 use borrow.Author.Needs.{needs}
 use Rattle.build.proofs.build_granted.Statement.{statement}
 use Rattle.build.proofs.build_granted.Tie as tie
-use Rattle.build.proofs.build_granted.Reads as reads
-use Rattle.build.proofs.build_granted.Lts as lts
-use Rattle.build.proofs.build_accepted.Reads as build-accepted-reads
 
--- src/lib.rt:120:11
 build-accepted-requires : tie.Need-build-accepted-requires
 build-accepted-requires c κs = search needs
 
--- src/lib.rt:121:25
 enum-known-n : tie.Need-enum-known-n
 enum-known-n c = search needs
 
--- src/lib.rt:122:26
 enum-known-x : tie.Need-enum-known-x
 enum-known-x c = search needs
 
--- src/lib.rt:108:1
 same-length : tie.Need-same-length
 same-length c = search needs
 
--- src/lib.rt:108:1
 same-length-2 : tie.Need-same-length-2
 same-length-2 c = search needs
 
--- src/lib.rt:108:1
 same-length-3 : tie.Need-same-length-3
 same-length-3 c = search needs
 
--- src/lib.rt:108:1
 same-length-4 : tie.Need-same-length-4
 same-length-4 c = search needs
 
--- src/lib.rt:108:1
 returns : tie.Need-returns
 returns c =
     let c1 = c .before in
     let c11 = c1 .before .before .before .before .before .before .before .before .before .before in
     builds-length _ _ _ _ _ (c11 .build-accepted .result) _ (c11 .build-accepted .ensures) _ (c1 .n .given .1)
 
--- src/lib.rt:108:1
 same-length-5 : tie.Need-same-length-5
 same-length-5 c = search needs
 
--- src/lib.rt:108:1
 same-length-6 : tie.Need-same-length-6
 same-length-6 c = search needs
 
--- src/lib.rt:108:1
 same-length-7 : tie.Need-same-length-7
 same-length-7 c = search needs
 
--- src/lib.rt:108:1
 same-length-8 : tie.Need-same-length-8
 same-length-8 c = search needs
 
--- src/lib.rt:108:1
 returns-2 : tie.Need-returns-2
 returns-2 c =
     let c1 = c .before in

@@ -6,18 +6,10 @@ use mathlib.Core.Path.{refl, sym, _∙_}
 use borrow.Author.Needs.{needs}
 use Rattle.build.proofs.build_program.Statement.{statement}
 use Rattle.build.proofs.build_program.Tie as tie
-use Rattle.build.proofs.build_program.Reads as reads
-use Rattle.build.proofs.build_program.Lts as lts
-use Rattle.base.proofs.shape.Shape.cells.Reads as cells-reads
-use Rattle.build.proofs.put_leaves.Reads as put-leaves-reads
-use Rattle.build.proofs.turn.build_turns.Reads as build-turns-reads
-use Rattle.writer.proofs.write_finished.Reads as write-finished-reads
 
--- src/lib.rt:68:9
 cells-requires : tie.Need-cells-requires
 cells-requires c κs = search needs
 
--- src/lib.rt:69:5
 put-leaves-requires : tie.Need-put-leaves-requires
 put-leaves-requires c κs =
     let c1 = c .before in
@@ -25,11 +17,9 @@ put-leaves-requires c κs =
     let p = c7 .pre in
     (omega (arith, p .rows-lent, c1 .cells .ensures), omega (arith, most-cells _ _ _ _ (p .standing), c1 .cells .ensures))
 
--- src/lib.rt:71:15
 add-t14 : tie.Need-add-t14
 add-t14 c = search needs
 
--- src/lib.rt:74:9
 build-turns-requires : tie.Need-build-turns-requires
 build-turns-requires c κs =
     let c5 = c .before .before .before .before .before in
@@ -38,21 +28,18 @@ build-turns-requires c κs =
     (building-start _ _ _ _ _ _ (c13 .pre) _ _ refl _ (c7 .cells .ensures) (c5 .put-leaves .ensures),
     rw (c5 .put-leaves .kept .0) (c13 .pre .numbers-lent))
 
--- src/lib.rt:75:27
 slice-reshare-prefix-write-finished : tie.Need-slice-reshare-prefix-write-finished
 slice-reshare-prefix-write-finished c =
     let c6 = c .before .before .before .before .before .before in
     let c14 = c6 .before .before .before .before .before .before .before .before in
     heads-there _ _ _ _ _ _ (c6 .build-turns .ensures) _ (c14 .cells .ensures)
 
--- src/lib.rt:75:27
 slice-aggregate-write-finished : tie.Need-slice-aggregate-write-finished
 slice-aggregate-write-finished c =
     let c7 = c .before .before .before .before .before .before .before in
     let c15 = c7 .before .before .before .before .before .before .before .before in
     sym (length-take-le (c15 .cells .result) _ (heads-there _ _ _ _ _ _ (c7 .build-turns .ensures) _ (c15 .cells .ensures)))
 
--- src/lib.rt:75:5
 write-finished-requires : tie.Need-write-finished-requires
 write-finished-requires c κs =
     let c10 = c .before .before .before .before .before .before .before .before .before .before in
@@ -62,23 +49,18 @@ write-finished-requires c κs =
     let rows = c10 .build-turns .kept .1 .1 .1 .0 ∙ c16 .put-leaves .kept .0 in
     finishing _ _ _ _ _ _ (c10 .build-turns .ensures) _ (c18 .cells .ensures) _ (rw (rows, c10 .build-turns .kept .1 .1 .1 .1 .1 .0) (c24 .pre .numbers-lent))
 
--- src/lib.rt:54:1
 same-length : tie.Need-same-length
 same-length c = search needs
 
--- src/lib.rt:54:1
 same-length-2 : tie.Need-same-length-2
 same-length-2 c = search needs
 
--- src/lib.rt:54:1
 same-length-3 : tie.Need-same-length-3
 same-length-3 c = search needs
 
--- src/lib.rt:54:1
 same-length-4 : tie.Need-same-length-4
 same-length-4 c = search needs
 
--- src/lib.rt:54:1
 returns : tie.Need-returns
 returns c =
     let c4 = c .before .before .before .before in

@@ -4,9 +4,6 @@ use native.Mathlib.Omega.{arith}
 use Prim.Native.Nat.{_-_}
 use Rattle.build.proofs.put_leaves.Statement.{statement}
 use Rattle.build.proofs.put_leaves.Tie as tie
-use Rattle.build.proofs.put_leaves.Reads as reads
-use Rattle.build.proofs.put_leaves.Lts as lts
-use Rattle.rows.proofs.node.entry_of.Reads as entry-of-reads
 
 abbrev Inv-loop : tie.InvT-loop
 Inv-loop rows₀ cells leaves i₀ rows i = Leafing rows₀ rows i
@@ -14,29 +11,23 @@ Inv-loop rows₀ cells leaves i₀ rows i = Leafing rows₀ rows i
 abbrev μ-loop : tie.MeasureT-loop
 μ-loop rows₀ cells leaves i₀ rows i = leaves - i
 
--- src/lib.rt:45:18
 add-leaves : tie.Need-add-leaves Inv-loop μ-loop
 add-leaves c = search needs
 
--- src/lib.rt:47:5
 loop-holds : tie.Need-loop-holds Inv-loop μ-loop
 loop-holds c = leafing-none _
 
--- src/lib.rt:48:43
 cast-t7 : tie.Need-cast-t7 Inv-loop μ-loop
 cast-t7 c =
     let c3 = c .before .before .before in
     omega (arith, c .loop-test .taken, c3 .pre .1)
 
--- src/lib.rt:48:19
 entry-of-requires : tie.Need-entry-of-requires Inv-loop μ-loop
 entry-of-requires c κs = search needs
 
--- src/lib.rt:48:9
 mul-rows : tie.Need-mul-rows Inv-loop μ-loop
 mul-rows c = search needs
 
--- src/lib.rt:48:9
 slice-write-rows : tie.Need-slice-write-rows Inv-loop μ-loop
 slice-write-rows c =
     let c1 = c .before in
@@ -44,18 +35,15 @@ slice-write-rows c =
     let c4 = c2 .before .before in
     omega (arith, c1 .loop-test .taken, c2 .loop .inv .size, c4 .pre .0)
 
--- src/lib.rt:49:9
 add-i : tie.Need-add-i Inv-loop μ-loop
 add-i c =
     let c1 = c .before in
     let c4 = c1 .before .before .before in
     omega (arith, c1 .loop-test .taken, c4 .pre .1)
 
--- src/lib.rt:47:5
 loop-less : tie.Need-loop-less Inv-loop μ-loop
 loop-less c = search needs
 
--- src/lib.rt:47:5
 loop-again : tie.Need-loop-again Inv-loop μ-loop
 loop-again c =
     let c1 = c .before in
@@ -63,11 +51,9 @@ loop-again c =
     let c4 = c2 .before .before in
     leafing-more (c2 .loop .inv) (omega (arith, c1 .loop-test .taken, c2 .loop .inv .size, c4 .pre .0)) _ (c .entry-of .ensures)
 
--- src/lib.rt:41:1
 same-length : tie.Need-same-length Inv-loop μ-loop
 same-length c = c .before .loop .inv .size
 
--- src/lib.rt:41:1
 returns : tie.Need-returns Inv-loop μ-loop
 returns c =
     let c1 = c .before in

@@ -6,36 +6,27 @@ use mathlib.Core.Path.{sym, _∙_}
 use borrow.Author.Needs.{needs}
 use Rattle.build.proofs.turn.build_turn.Statement.{statement}
 use Rattle.build.proofs.turn.build_turn.Tie as tie
-use Rattle.build.proofs.turn.build_turn.Reads as reads
-use Rattle.build.proofs.turn.build_turn.Lts as lts
-use Rattle.base.proofs.shape.Shape.cells.Reads as cells-reads
-use Rattle.build.proofs.turn.turn_into.Reads as turn-into-reads
 
--- src/turn.rt:181:9
 returns : tie.Need-returns
 returns c =
     let c5 = c .before .before .before .before .before in
     turn-over _ _ _ _ (due _ _ _ _ _ _ _ (c5 .pre .0)) _ _ _ (c5 .pre .0) (c .if1 .taken)
 
--- src/turn.rt:184:9
 cells-requires : tie.Need-cells-requires
 cells-requires c κs = search needs
 
--- src/turn.rt:194:9
 array-borrow-prefix-made : tie.Need-array-borrow-prefix-made
 array-borrow-prefix-made c =
     let c3 = c .before .before .before in
     let c9 = c3 .before .before .before .before .before .before in
     omega (arith, most-cells _ _ _ _ (due _ _ _ _ _ _ _ (c9 .pre .0)), c3 .cells .ensures)
 
--- src/turn.rt:194:9
 slice-aggregate-turn-into : tie.Need-slice-aggregate-turn-into
 slice-aggregate-turn-into c =
     let c4 = c .before .before .before .before in
     let c10 = c4 .before .before .before .before .before .before in
     sym (length-take-le (c4 .cells .result) _ (omega (arith, most-cells _ _ _ _ (due _ _ _ _ _ _ _ (c10 .pre .0)), c4 .cells .ensures)))
 
--- src/turn.rt:185:5
 turn-into-requires : tie.Need-turn-into-requires
 turn-into-requires c κs =
     let c4 = c .before .before .before .before in
@@ -44,19 +35,15 @@ turn-into-requires c κs =
     turning _ _ _ _ _ _ _ (c10 .pre .0) (c5 .if1 .left) _ (c10 .pre .1) _
     (length-take-le (c4 .cells .result) _ (omega (arith, most-cells _ _ _ _ (due _ _ _ _ _ _ _ (c10 .pre .0)), c4 .cells .ensures)) ∙ c4 .cells .ensures)
 
--- src/turn.rt:166:1
 same-length : tie.Need-same-length
 same-length c = search needs
 
--- src/turn.rt:166:1
 same-length-2 : tie.Need-same-length-2
 same-length-2 c = search needs
 
--- src/turn.rt:166:1
 same-length-3 : tie.Need-same-length-3
 same-length-3 c = search needs
 
--- src/turn.rt:166:1
 returns-2 : tie.Need-returns-2
 returns-2 c = search needs
 

@@ -3,12 +3,9 @@ use borrow.Author.Needs.{needs}
 use lib.ListN.{length}
 use native.Mathlib.Omega.{arith}
 use mathlib.Core.Path.{_≡_, refl, _∙_}
-use Prim.Native.Nat.{ℕ, _+_, _-_}
+use Prim.Native.Nat.{_+_, _-_}
 use Rattle.build.proofs.turn.build_turns.Statement.{statement}
 use Rattle.build.proofs.turn.build_turns.Tie as tie
-use Rattle.build.proofs.turn.build_turns.Reads as reads
-use Rattle.build.proofs.turn.build_turns.Lts as lts
-use Rattle.build.proofs.turn.build_turn.Reads as build-turn-reads
 
 abbrev Inv-loop : tie.InvT-loop
 Inv-loop file shape n rows₀ numbers₀ heads₀ table₀ i₀ rows numbers heads table i =
@@ -18,22 +15,18 @@ Inv-loop file shape n rows₀ numbers₀ heads₀ table₀ i₀ rows numbers hea
 abbrev μ-loop : tie.MeasureT-loop
 μ-loop file shape n rows₀ numbers₀ heads₀ table₀ i₀ rows numbers heads table i = i
 
--- src/turn.rt:214:5
 loop-holds : tie.Need-loop-holds Inv-loop μ-loop
 loop-holds c = (c .before .before .before .before .pre .0, refl, refl, refl)
 
--- src/turn.rt:215:9
 sub-i : tie.Need-sub-i Inv-loop μ-loop
 sub-i c = search needs
 
--- src/turn.rt:216:50
 cast-t11 : tie.Need-cast-t11 Inv-loop μ-loop
 cast-t11 c =
     let c1 = c .before in
     let c6 = c1 .before .before .before .before .before in
     omega (arith, c1 .loop .inv .0 .high, c6 .pre .0 .standing .most)
 
--- src/turn.rt:216:9
 build-turn-requires : tie.Need-build-turn-requires Inv-loop μ-loop
 build-turn-requires c κs =
     let c3 = c .before .before .before in
@@ -43,11 +36,9 @@ build-turn-requires c κs =
     let z : c4 .loop .i - 1 + 1 ≡ c4 .loop .i = omega (arith, c3 .loop-test .taken) in
     (rw z (v .0), rw (v .1, v .2) (c9 .pre .1))
 
--- src/turn.rt:214:5
 loop-less : tie.Need-loop-less Inv-loop μ-loop
 loop-less c = search needs
 
--- src/turn.rt:214:5
 loop-again : tie.Need-loop-again Inv-loop μ-loop
 loop-again c =
     let c6 = c .before .before .before .before .before .before in
@@ -56,19 +47,15 @@ loop-again c =
     let k = c6 .build-turn .kept in
     (c6 .build-turn .ensures, k .1 .1 .1 .1 .0 ∙ v .1, k .1 .1 .1 .1 .1 .1 .0 ∙ v .2, k .1 .1 .1 .1 .1 .1 .1 .0 ∙ v .3)
 
--- src/turn.rt:199:1
 same-length : tie.Need-same-length Inv-loop μ-loop
 same-length c = c .before .loop .inv .1
 
--- src/turn.rt:199:1
 same-length-2 : tie.Need-same-length-2 Inv-loop μ-loop
 same-length-2 c = c .before .loop .inv .2
 
--- src/turn.rt:199:1
 same-length-3 : tie.Need-same-length-3 Inv-loop μ-loop
 same-length-3 c = c .before .loop .inv .3
 
--- src/turn.rt:199:1
 returns : tie.Need-returns Inv-loop μ-loop
 returns c =
     let c1 = c .before in

@@ -7,8 +7,6 @@ use borrow.Author.Needs.{needs}
 use Rattle.storage.specs.Moves.{Replacing, replacing-none, replacing-more, replacing-whole}
 use Rattle.build.proofs.turn.copy_heads.Statement.{statement}
 use Rattle.build.proofs.turn.copy_heads.Tie as tie
-use Rattle.build.proofs.turn.copy_heads.Reads as reads
-use Rattle.build.proofs.turn.copy_heads.Lts as lts
 
 abbrev Inv-loop : tie.InvT-loop
 Inv-loop from to₀ i₀ to i = Replacing to₀ 0 from to i
@@ -16,43 +14,33 @@ Inv-loop from to₀ i₀ to i = Replacing to₀ 0 from to i
 abbrev μ-loop : tie.MeasureT-loop
 μ-loop from to₀ i₀ to i = length to₀ - i
 
--- src/turn.rt:29:5
 loop-holds : tie.Need-loop-holds Inv-loop μ-loop
 loop-holds c = replacing-none (omega arith)
 
--- src/turn.rt:30:17
 mul-to : tie.Need-mul-to Inv-loop μ-loop
 mul-to c = search needs
 
--- src/turn.rt:30:17
 shared-slice-read-to : tie.Need-shared-slice-read-to Inv-loop μ-loop
 shared-slice-read-to c = search needs
 
--- src/turn.rt:30:9
 mul-to-2 : tie.Need-mul-to-2 Inv-loop μ-loop
 mul-to-2 c = search needs
 
--- src/turn.rt:30:9
 slice-write-to : tie.Need-slice-write-to Inv-loop μ-loop
 slice-write-to c = search needs
 
--- src/turn.rt:31:9
 add-i : tie.Need-add-i Inv-loop μ-loop
 add-i c = search needs
 
--- src/turn.rt:29:5
 loop-less : tie.Need-loop-less Inv-loop μ-loop
 loop-less c = search needs
 
--- src/turn.rt:29:5
 loop-again : tie.Need-loop-again Inv-loop μ-loop
 loop-again c = replacing-more (c .before .before .loop .inv) (omega arith) (omega arith) (rw sub-zero)
 
--- src/turn.rt:24:1
 same-length : tie.Need-same-length Inv-loop μ-loop
 same-length c = search needs
 
--- src/turn.rt:24:1
 returns : tie.Need-returns Inv-loop μ-loop
 returns c = replacing-whole (c .before .loop .inv) (omega arith) (omega arith)
 

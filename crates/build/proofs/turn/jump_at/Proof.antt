@@ -6,38 +6,24 @@ use mathlib.Core.Path.{_∙_, refl}
 use borrow.Author.Needs.{needs}
 use Rattle.build.proofs.turn.jump_at.Statement.{statement}
 use Rattle.build.proofs.turn.jump_at.Tie as tie
-use Rattle.build.proofs.turn.jump_at.Reads as reads
-use Rattle.build.proofs.turn.jump_at.Lts as lts
-use Rattle.base.proofs.bytes.word.Reads as word-reads
-use Rattle.base.proofs.kinds.Instr.of_word.Reads as of-word-reads
-use Rattle.base.proofs.shape.Shape.cells.Reads as cells-reads
-use Rattle.build.proofs.turn.copy_heads.Reads as copy-heads-reads
-use Rattle.build.proofs.turn.jump_heads.Reads as jump-heads-reads
-use Rattle.build.proofs.turn.slot_of.Reads as slot-of-reads
 
--- src/turn.rt:91:16
 shared-slice-read-code : tie.Need-shared-slice-read-code
 shared-slice-read-code c = inside _ _ _ _ (place _ _ _ _ _ _ _ _ _ (c .before .before .before .before .before .before .before .pre .0)) _ (c .before .before .before .before .before .before .before .pre .1 .0 .0)
 
--- src/turn.rt:92:9
 cells-requires : tie.Need-cells-requires
 cells-requires c κs = search needs
 
--- src/turn.rt:93:39
 add-word : tie.Need-add-word
 add-word c = search needs
 
--- src/turn.rt:93:28
 word-requires : tie.Need-word-requires
 word-requires c κs =
     let c8 = c .before .before .before .before .before .before .before .before in
     label-there _ _ _ _ (place _ _ _ _ _ _ _ _ _ (c8 .pre .0)) _ (c8 .pre .1 .0 .0) _ refl (c8 .pre .1 .0 .2)
 
--- src/turn.rt:93:9
 of-word-requires : tie.Need-of-word-requires
 of-word-requires c κs = search needs
 
--- src/turn.rt:94:9
 slot-of-requires : tie.Need-slot-of-requires
 slot-of-requires c κs =
     let c1 = c .before in
@@ -47,23 +33,18 @@ slot-of-requires c κs =
     (label-ends _ _ _ _ _ _ _ _ _ (c10 .pre .0) _ _ (c10 .pre .1 .0 .0) refl (c10 .pre .1 .0 .2) _ e .0,
     omega (arith, most-cells _ _ _ _ (place _ _ _ _ _ _ _ _ _ (c10 .pre .0)), c2 .cells .ensures))
 
--- src/turn.rt:95:14
 add-to : tie.Need-add-to
 add-to c = search needs
 
--- src/turn.rt:96:16
 mul-copy-heads : tie.Need-mul-copy-heads
 mul-copy-heads c = search needs
 
--- src/turn.rt:96:16
 sub-copy-heads : tie.Need-sub-copy-heads
 sub-copy-heads c = search needs
 
--- src/turn.rt:96:16
 part-copy-heads-start : tie.Need-part-copy-heads-start
 part-copy-heads-start c = search needs
 
--- src/turn.rt:96:16
 part-copy-heads-end : tie.Need-part-copy-heads-end
 part-copy-heads-end c =
     let c1 = c .before in
@@ -74,11 +55,9 @@ part-copy-heads-end c =
     let h = label-ends _ _ _ _ _ _ _ _ _ (c11 .pre .0) _ _ (c11 .pre .1 .0 .0) refl (c11 .pre .1 .0 .2) _ e .1 in
     slot-fits _ _ _ _ (c .slot-of .ensures .0) (c3 .cells .ensures) _ h
 
--- src/turn.rt:96:5
 copy-heads-requires : tie.Need-copy-heads-requires
 copy-heads-requires c κs = search needs
 
--- src/turn.rt:97:5
 jump-heads-requires : tie.Need-jump-heads-requires
 jump-heads-requires c κs =
     let c5 = c .before .before .before .before .before in
@@ -91,19 +70,15 @@ jump-heads-requires c κs =
     jumping _ _ _ _ _ _ _ _ _ (c19 .pre .0) _ _ (c19 .pre .1 .0 .0) refl (c19 .pre .1 .0 .2) _ e _ (c19 .pre .1 .1) _
     (c5 .copy-heads .ensures ∙ slot-cut _ _ _ _ (c8 .slot-of .ensures .0) (c11 .cells .ensures) _)
 
--- src/turn.rt:73:1
 same-length : tie.Need-same-length
 same-length c = search needs
 
--- src/turn.rt:73:1
 same-length-2 : tie.Need-same-length-2
 same-length-2 c = search needs
 
--- src/turn.rt:73:1
 same-length-3 : tie.Need-same-length-3
 same-length-3 c = search needs
 
--- src/turn.rt:73:1
 returns : tie.Need-returns
 returns c =
     let c6 = c .before .before .before .before .before .before in

@@ -3,28 +3,18 @@ use native.Mathlib.Omega.{arith}
 use borrow.Author.Needs.{needs}
 use Rattle.build.proofs.turn.jump_heads.Statement.{statement}
 use Rattle.build.proofs.turn.jump_heads.Tie as tie
-use Rattle.build.proofs.turn.jump_heads.Reads as reads
-use Rattle.build.proofs.turn.jump_heads.Lts as lts
-use Rattle.base.proofs.kinds.Row.of_cell.Reads as of-cell-reads
-use Rattle.base.proofs.shape.Shape.flag.Reads as flag-reads
-use Rattle.choice.proofs.choose_heads.Reads as choose-heads-reads
-use Rattle.rewrite.proofs.follow.Reads as follow-reads
 
--- src/turn.rt:59:9
 returns : tie.Need-returns
 returns c = jumps-jp _ _ _ _ _ _ (c .if1 .taken)
 
--- src/turn.rt:61:26
 flag-requires : tie.Need-flag-requires
 flag-requires c κs = omega (arith, flag-few _ _ _ _ _ _ _ (c .before .before .before .before .before .pre))
 
--- src/turn.rt:61:9
 of-cell-requires : tie.Need-of-cell-requires
 of-cell-requires c κs =
     let c6 = c .before .before .before .before .before .before in
     omega (arith, flag-few _ _ _ _ _ _ _ (c6 .pre), c .flag .ensures)
 
--- src/turn.rt:63:9
 choose-heads-requires : tie.Need-choose-heads-requires
 choose-heads-requires c κs =
     let c3 = c .before .before .before in
@@ -32,15 +22,12 @@ choose-heads-requires c κs =
     let c10 = c4 .before .before .before .before .before .before in
     jump-choosing _ _ _ _ _ _ _ (c10 .pre) _ (omega (arith, c3 .of-cell .ensures, c4 .flag .ensures))
 
--- src/turn.rt:63:9
 same-length : tie.Need-same-length
 same-length c = search needs
 
--- src/turn.rt:63:9
 same-length-2 : tie.Need-same-length-2
 same-length-2 c = search needs
 
--- src/turn.rt:63:9
 returns-2 : tie.Need-returns-2
 returns-2 c =
     let c4 = c .before .before .before .before in
@@ -50,29 +37,23 @@ returns-2 c =
     let c15 = c9 .before .before .before .before .before .before in
     jumps-jpc _ _ _ _ _ _ _ (c15 .pre) _ (omega (arith, c8 .of-cell .ensures, c9 .flag .ensures)) (c7 .if2 .taken) _ _ _ (c4 .choose-heads .ensures)
 
--- src/turn.rt:65:9
 follow-requires : tie.Need-follow-requires
 follow-requires c κs = c .before .before .before .before .before .before .before .before .before .before .before .pre .following
 
--- src/turn.rt:67:9
 same-length-3 : tie.Need-same-length-3
 same-length-3 c = search needs
 
--- src/turn.rt:67:9
 same-length-4 : tie.Need-same-length-4
 same-length-4 c = search needs
 
--- src/turn.rt:67:9
 same-length-5 : tie.Need-same-length-5
 same-length-5 c = search needs
 
--- src/turn.rt:67:9
 returns-3 : tie.Need-returns-3
 returns-3 c =
     let c7 = c .before .before .before .before .before .before .before in
     jumps-js _ _ _ _ _ _ (c .if3 .taken) _ _ _ (c7 .follow .ensures)
 
--- src/turn.rt:69:5
 choose-heads-requires-2 : tie.Need-choose-heads-requires-2
 choose-heads-requires-2 c κs =
     let c9 = c .before .before .before .before .before .before .before .before .before in
@@ -81,19 +62,15 @@ choose-heads-requires-2 c κs =
     let c21 = c15 .before .before .before .before .before .before in
     call-choosing _ _ _ _ _ _ _ (c21 .pre) _ (omega (arith, c14 .of-cell .ensures, c15 .flag .ensures)) _ _ _ (c9 .follow .ensures) (c9 .follow .kept .1 .1 .1 .1 .1 .0)
 
--- src/turn.rt:44:1
 same-length-6 : tie.Need-same-length-6
 same-length-6 c = search needs
 
--- src/turn.rt:44:1
 same-length-7 : tie.Need-same-length-7
 same-length-7 c = search needs
 
--- src/turn.rt:44:1
 same-length-8 : tie.Need-same-length-8
 same-length-8 c = search needs
 
--- src/turn.rt:44:1
 returns-4 : tie.Need-returns-4
 returns-4 c =
     let c4 = c .before .before .before .before in

@@ -4,18 +4,13 @@ use native.Mathlib.Omega.{arith}
 use borrow.Author.Needs.{needs}
 use Rattle.build.proofs.turn.slot_of.Statement.{statement}
 use Rattle.build.proofs.turn.slot_of.Tie as tie
-use Rattle.build.proofs.turn.slot_of.Reads as reads
-use Rattle.build.proofs.turn.slot_of.Lts as lts
 
--- src/turn.rt:40:5
 cast-result : tie.Need-cast-result
 cast-result c = search needs
 
--- src/turn.rt:40:5
 mul-result : tie.Need-mul-result
 mul-result c = omega (arith, slot-most _ _ (c .before .pre .0) (c .before .pre .1))
 
--- src/turn.rt:36:1
 returns : tie.Need-returns
 returns c = (refl, slot-most _ _ (c .before .pre .0) (c .before .pre .1))
 

@@ -2,34 +2,23 @@ use Rattle.build.specs.TurnLaws.{place, owning, end-turned, next-ends, o
 use Rattle.build.specs.Slots.{slot-cut, slot-fits}
 use Rattle.program.specs.Standing.{inside, contents-there, most-cells}
 use native.Mathlib.Omega.{arith}
-use mathlib.Core.Path.{_∙_, refl}
+use mathlib.Core.Path.{refl}
 use borrow.Author.Needs.{needs}
 use Rattle.build.proofs.turn.turn_heads.Statement.{statement}
 use Rattle.build.proofs.turn.turn_heads.Tie as tie
-use Rattle.build.proofs.turn.turn_heads.Reads as reads
-use Rattle.build.proofs.turn.turn_heads.Lts as lts
-use Rattle.base.proofs.shape.Shape.cells.Reads as cells-reads
-use Rattle.build.proofs.turn.jump_at.Reads as jump-at-reads
-use Rattle.build.proofs.turn.slot_of.Reads as slot-of-reads
-use Rattle.own.proofs.own_heads.Reads as own-heads-reads
-use Rattle.program.proofs.body.body_at.Reads as body-at-reads
-use Rattle.rewrite.proofs.follow.Reads as follow-reads
 
--- src/turn.rt:115:9
 body-at-requires : tie.Need-body-at-requires
 body-at-requires c κs =
     let c5 = c .before .before .before .before .before in
     let s = place _ _ _ _ _ _ _ _ _ (c5 .pre) in
     (s .low, s .most, contents-there _ _ _ _ s)
 
--- src/turn.rt:116:8
 shared-slice-read-if1 : tie.Need-shared-slice-read-if1
 shared-slice-read-if1 c =
     let c1 = c .before in
     let c7 = c1 .before .before .before .before .before .before in
     inside _ _ _ _ (place _ _ _ _ _ _ _ _ _ (c7 .pre)) _ (c1 .body-at .ensures .0)
 
--- src/turn.rt:117:9
 own-heads-requires : tie.Need-own-heads-requires
 own-heads-requires c κs =
     let c2 = c .before .before in
@@ -37,15 +26,12 @@ own-heads-requires c κs =
     let c10 = c4 .before .before .before .before .before .before in
     owning _ _ _ _ _ _ _ _ _ (c10 .pre) _ _ (c4 .body-at .ensures .0) refl (omega (arith, c2 .if1 .taken)) (c4 .body-at .ensures .1)
 
--- src/turn.rt:117:9
 same-length : tie.Need-same-length
 same-length c = search needs
 
--- src/turn.rt:117:9
 same-length-2 : tie.Need-same-length-2
 same-length-2 c = search needs
 
--- src/turn.rt:117:9
 returns : tie.Need-returns
 returns c =
     let c4 = c .before .before .before .before in
@@ -54,15 +40,12 @@ returns c =
     let c15 = c9 .before .before .before .before .before .before in
     end-turned _ _ _ _ _ _ _ _ _ (c15 .pre) _ _ (c9 .body-at .ensures .0) refl (omega (arith, c7 .if1 .taken)) _ _ _ (c4 .own-heads .ensures) (c7 .if1 .taken)
 
--- src/turn.rt:119:9
 cells-requires : tie.Need-cells-requires
 cells-requires c κs = search needs
 
--- src/turn.rt:120:30
 add-t23 : tie.Need-add-t23
 add-t23 c = search needs
 
--- src/turn.rt:120:9
 slot-of-requires : tie.Need-slot-of-requires
 slot-of-requires c κs =
     let c1 = c .before in
@@ -70,23 +53,18 @@ slot-of-requires c κs =
     let s = place _ _ _ _ _ _ _ _ _ (c10 .pre) in
     (omega (arith, s .low, s .most), omega (arith, most-cells _ _ _ _ s, c1 .cells .ensures))
 
--- src/turn.rt:121:14
 add-to : tie.Need-add-to
 add-to c = search needs
 
--- src/turn.rt:122:16
 mul-next : tie.Need-mul-next
 mul-next c = search needs
 
--- src/turn.rt:122:16
 sub-next : tie.Need-sub-next
 sub-next c = search needs
 
--- src/turn.rt:122:16
 part-next-start : tie.Need-part-next-start
 part-next-start c = search needs
 
--- src/turn.rt:122:16
 part-next-end : tie.Need-part-next-end
 part-next-end c =
     let c2 = c .before .before in
@@ -96,14 +74,12 @@ part-next-end c =
     slot-fits _ _ _ _ (c .slot-of .ensures .0) (c2 .cells .ensures) _
     (next-ends _ _ _ _ _ _ _ _ _ (c11 .pre) _ _ (c5 .body-at .ensures .0) refl (c3 .if1 .left))
 
--- src/turn.rt:123:14
 shared-slice-read-if2 : tie.Need-shared-slice-read-if2
 shared-slice-read-if2 c =
     let c7 = c .before .before .before .before .before .before .before in
     let c13 = c7 .before .before .before .before .before .before in
     inside _ _ _ _ (place _ _ _ _ _ _ _ _ _ (c13 .pre)) _ (c7 .body-at .ensures .0)
 
--- src/turn.rt:124:9
 jump-at-requires : tie.Need-jump-at-requires
 jump-at-requires c κs =
     let c3 = c .before .before .before in
@@ -114,23 +90,18 @@ jump-at-requires c κs =
     (c17 .pre, ((c11 .body-at .ensures .0, c11 .body-at .ensures .1, c3 .if2 .taken),
     slot-cut _ _ _ _ (c6 .slot-of .ensures .0) (c8 .cells .ensures) _))
 
--- src/turn.rt:124:9
 same-length-3 : tie.Need-same-length-3
 same-length-3 c = search needs
 
--- src/turn.rt:124:9
 same-length-4 : tie.Need-same-length-4
 same-length-4 c = search needs
 
--- src/turn.rt:124:9
 same-length-5 : tie.Need-same-length-5
 same-length-5 c = search needs
 
--- src/turn.rt:124:9
 returns-2 : tie.Need-returns-2
 returns-2 c = search needs
 
--- src/turn.rt:138:9
 own-heads-requires-2 : tie.Need-own-heads-requires-2
 own-heads-requires-2 c κs =
     let c2 = c .before .before in
@@ -138,7 +109,6 @@ own-heads-requires-2 c κs =
     let c16 = c10 .before .before .before .before .before .before in
     owning _ _ _ _ _ _ _ _ _ (c16 .pre) _ _ (c10 .body-at .ensures .0) refl (c2 .if2 .left) (c10 .body-at .ensures .1)
 
--- src/turn.rt:139:5
 follow-requires : tie.Need-follow-requires
 follow-requires c κs =
     let c7 = c .before .before .before .before .before .before .before in
@@ -151,19 +121,15 @@ follow-requires c κs =
     own-following _ _ _ _ _ _ _ _ _ (c24 .pre) _ _ (c18 .body-at .ensures .0) refl (c10 .if2 .left) _ _ _ (c7 .own-heads2 .ensures) (c16 .if1 .left) _
     (slot-cut _ _ _ _ (c13 .slot-of .ensures .0) (c15 .cells .ensures) _) (c7 .own-heads2 .kept .1 .1 .1 .1 .1 .1 .1 .0) (c7 .own-heads2 .kept .1 .1 .1 .1 .1 .0)
 
--- src/turn.rt:101:1
 same-length-6 : tie.Need-same-length-6
 same-length-6 c = search needs
 
--- src/turn.rt:101:1
 same-length-7 : tie.Need-same-length-7
 same-length-7 c = search needs
 
--- src/turn.rt:101:1
 same-length-8 : tie.Need-same-length-8
 same-length-8 c = search needs
 
--- src/turn.rt:101:1
 returns-3 : tie.Need-returns-3
 returns-3 c =
     let c6 = c .before .before .before .before .before .before in

@@ -5,48 +5,34 @@ use native.Mathlib.Omega.{arith}
 use borrow.Author.Needs.{needs}
 use Rattle.build.proofs.turn.turn_into.Statement.{statement}
 use Rattle.build.proofs.turn.turn_into.Tie as tie
-use Rattle.build.proofs.turn.turn_into.Reads as reads
-use Rattle.build.proofs.turn.turn_into.Lts as lts
-use Rattle.base.proofs.shape.Shape.cells.Reads as cells-reads
-use Rattle.build.proofs.turn.copy_heads.Reads as copy-heads-reads
-use Rattle.build.proofs.turn.slot_of.Reads as slot-of-reads
-use Rattle.build.proofs.turn.turn_heads.Reads as turn-heads-reads
 
--- src/turn.rt:157:9
 turn-heads-requires : tie.Need-turn-heads-requires
 turn-heads-requires c κs = search needs
 
--- src/turn.rt:158:9
 cells-requires : tie.Need-cells-requires
 cells-requires c κs = search needs
 
--- src/turn.rt:159:9
 slot-of-requires : tie.Need-slot-of-requires
 slot-of-requires c κs =
     let c17 = c .before .before .before .before .before .before .before .before .before .before .before .before .before .before .before .before .before in
     let s = place _ _ _ _ _ _ _ _ _ (c17 .pre) in
     (omega (arith, s .low, s .most), omega (arith, most-cells _ _ _ _ s, c .cells .ensures))
 
--- src/turn.rt:160:14
 add-to : tie.Need-add-to
 add-to c =
     let c1 = c .before in
     let c18 = c1 .before .before .before .before .before .before .before .before .before .before .before .before .before .before .before .before .before in
     omega (arith, c .slot-of .ensures .1, most-cells _ _ _ _ (place _ _ _ _ _ _ _ _ _ (c18 .pre)), c1 .cells .ensures)
 
--- src/turn.rt:161:22
 mul-copy-heads : tie.Need-mul-copy-heads
 mul-copy-heads c = search needs
 
--- src/turn.rt:161:22
 sub-copy-heads : tie.Need-sub-copy-heads
 sub-copy-heads c = search needs
 
--- src/turn.rt:161:22
 part-copy-heads-start : tie.Need-part-copy-heads-start
 part-copy-heads-start c = search needs
 
--- src/turn.rt:161:22
 part-copy-heads-end : tie.Need-part-copy-heads-end
 part-copy-heads-end c =
     let c1 = c .before in
@@ -54,27 +40,21 @@ part-copy-heads-end c =
     let c19 = c2 .before .before .before .before .before .before .before .before .before .before .before .before .before .before .before .before .before in
     slot-fits _ _ _ _ (c1 .slot-of .ensures .0) (c2 .cells .ensures) _ (slot-ends _ _ _ _ _ _ _ _ _ (c19 .pre) _ (c19 .pre .low))
 
--- src/turn.rt:161:5
 copy-heads-requires : tie.Need-copy-heads-requires
 copy-heads-requires c κs = search needs
 
--- src/turn.rt:143:1
 same-length : tie.Need-same-length
 same-length c = search needs
 
--- src/turn.rt:143:1
 same-length-2 : tie.Need-same-length-2
 same-length-2 c = search needs
 
--- src/turn.rt:143:1
 same-length-3 : tie.Need-same-length-3
 same-length-3 c = search needs
 
--- src/turn.rt:143:1
 same-length-4 : tie.Need-same-length-4
 same-length-4 c = search needs
 
--- src/turn.rt:143:1
 returns : tie.Need-returns
 returns c =
     let c2 = c .before .before in
