@@ -1,8 +1,4 @@
--- Building: what a turn knows and leaves, and what the operation answers.
-pub mod Turning
+-- Building: what the operation answers, and the start and the end of the turns.
 pub mod Contract
-pub mod Slots
-pub mod JumpLaws
-pub mod TurnLaws
 pub mod Leaves
 pub mod Answer

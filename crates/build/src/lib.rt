@@ -1,7 +1,4 @@
 // Builds the transfer set of a program file (R37 to R39, R51, R55).
-pub mod turn;
-
-use crate::turn::build_turns;
 use base::bytes::word;
 use base::kinds::Row;
 use base::refusal::Refusal;
@@ -15,6 +12,7 @@ use rows::node::Node;
 use rows::node::entry_of;
 use rows::table::Table;
 use rows::table::room_in;
+use turns::build_turns;
 use writer::Written;
 use writer::write_finished;
 ghost use mathlib.Core.Path.{_≡_};

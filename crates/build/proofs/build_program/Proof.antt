@@ -24,9 +24,10 @@ build-turns-requires : tie.Need-build-turns-requires
 build-turns-requires c κs =
     let c5 = c .before .before .before .before .before in
     let c7 = c5 .before .before in
-    let c13 = c7 .before .before .before .before .before .before in
-    (building-start _ _ _ _ _ _ (c13 .pre) _ _ refl _ (c7 .cells .ensures) (c5 .put-leaves .ensures),
-    rw (c5 .put-leaves .kept .0) (c13 .pre .numbers-lent))
+    let c13 = c7 .before .before .before .before .before .before in (
+      building-start _ _ _ _ _ _ (c13 .pre) _ _ refl _ (c7 .cells .ensures) (c5 .put-leaves .ensures),
+      rw (c5 .put-leaves .kept .0) (c13 .pre .numbers-lent),
+    )
 
 slice-reshare-prefix-write-finished : tie.Need-slice-reshare-prefix-write-finished
 slice-reshare-prefix-write-finished c =

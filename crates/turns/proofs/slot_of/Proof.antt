@@ -1,9 +1,9 @@
 use mathlib.Core.Path.{refl}
-use Rattle.build.specs.Slots.{slot-most}
+use Rattle.turns.specs.Slots.{slot-most}
 use native.Mathlib.Omega.{arith}
 use borrow.Author.Needs.{needs}
-use Rattle.build.proofs.turn.slot_of.Statement.{statement}
-use Rattle.build.proofs.turn.slot_of.Tie as tie
+use Rattle.turns.proofs.slot_of.Statement.{statement}
+use Rattle.turns.proofs.slot_of.Tie as tie
 
 cast-result : tie.Need-cast-result
 cast-result c = search needs

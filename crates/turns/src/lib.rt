@@ -18,7 +18,7 @@ ghost use Rattle.rules.specs.Room.{room};
 ghost use Rattle.base.specs.Answers.{shapeOf};
 ghost use Rattle.program.specs.Contracts.{farthest};
 ghost use Rattle.rows.specs.Making.{Drawn};
-ghost use Rattle.build.specs.Turning.{slot, Jumping, Jumps, Turning, turnAt, Building};
+ghost use Rattle.turns.specs.Turning.{slot, Jumping, Jumps, Turning, turnAt, Building};
 
 // Copies heads.
 fn copy_heads(from: &[u16], to: &mut [u16])

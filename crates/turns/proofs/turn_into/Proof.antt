@@ -1,10 +1,10 @@
-use Rattle.build.specs.TurnLaws.{place, slot-ends, turn-built}
-use Rattle.build.specs.Slots.{slot-fits}
+use Rattle.turns.specs.TurnLaws.{place, slot-ends, turn-built}
+use Rattle.turns.specs.Slots.{slot-fits}
 use Rattle.program.specs.Standing.{most-cells}
 use native.Mathlib.Omega.{arith}
 use borrow.Author.Needs.{needs}
-use Rattle.build.proofs.turn.turn_into.Statement.{statement}
-use Rattle.build.proofs.turn.turn_into.Tie as tie
+use Rattle.turns.proofs.turn_into.Statement.{statement}
+use Rattle.turns.proofs.turn_into.Tie as tie
 
 turn-heads-requires : tie.Need-turn-heads-requires
 turn-heads-requires c κs = search needs

@@ -1,11 +1,11 @@
-use Rattle.build.specs.TurnLaws.{turn-over, due, turning}
+use Rattle.turns.specs.TurnLaws.{turn-over, due, turning}
 use Rattle.program.specs.Standing.{most-cells}
 use lib.Seq.{length-take-le}
 use native.Mathlib.Omega.{arith}
 use mathlib.Core.Path.{sym, _∙_}
 use borrow.Author.Needs.{needs}
-use Rattle.build.proofs.turn.build_turn.Statement.{statement}
-use Rattle.build.proofs.turn.build_turn.Tie as tie
+use Rattle.turns.proofs.build_turn.Statement.{statement}
+use Rattle.turns.proofs.build_turn.Tie as tie
 
 returns : tie.Need-returns
 returns c =

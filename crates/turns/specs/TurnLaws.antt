@@ -33,9 +33,9 @@ use Rattle.rows.specs.Making.{Drawn}
 use Rattle.rows.specs.declared.table.Table.{Table}
 use Rattle.own.specs.Owning.{ownOf, Owning, Owns}
 use Rattle.rewrite.specs.Follow.{Following, Follows}
-use Rattle.build.specs.Turning.{built, slot, Building, turnAt, Turning, Jumping, Jumps}
-use Rattle.build.specs.Slots.{slot-inside, slot-length, putAt, length-put, slot-put, slot-kept}
-use Rattle.build.specs.JumpLaws.{turn-jumped}
+use Rattle.turns.specs.Turning.{built, slot, Building, turnAt, Turning, Jumping, Jumps}
+use Rattle.turns.specs.Slots.{slot-inside, slot-length, putAt, length-put, slot-put, slot-kept}
+use Rattle.turns.specs.JumpLaws.{turn-jumped}
 
 -- ---- one turn more
 

@@ -1,11 +1,11 @@
-use Rattle.build.specs.Turning.{Building}
+use Rattle.turns.specs.Turning.{Building}
 use borrow.Author.Needs.{needs}
 use lib.ListN.{length}
 use native.Mathlib.Omega.{arith}
 use mathlib.Core.Path.{_≡_, refl, _∙_}
 use Prim.Native.Nat.{_+_, _-_}
-use Rattle.build.proofs.turn.build_turns.Statement.{statement}
-use Rattle.build.proofs.turn.build_turns.Tie as tie
+use Rattle.turns.proofs.build_turns.Statement.{statement}
+use Rattle.turns.proofs.build_turns.Tie as tie
 
 abbrev Inv-loop : tie.InvT-loop
 Inv-loop file shape n rows₀ numbers₀ heads₀ table₀ i₀ rows numbers heads table i =

@@ -1,11 +1,11 @@
-use Rattle.build.specs.TurnLaws.{place, owning, end-turned, next-ends, own-following, plain-turned}
-use Rattle.build.specs.Slots.{slot-cut, slot-fits}
+use Rattle.turns.specs.TurnLaws.{place, owning, end-turned, next-ends, own-following, plain-turned}
+use Rattle.turns.specs.Slots.{slot-cut, slot-fits}
 use Rattle.program.specs.Standing.{inside, contents-there, most-cells}
 use native.Mathlib.Omega.{arith}
 use mathlib.Core.Path.{refl}
 use borrow.Author.Needs.{needs}
-use Rattle.build.proofs.turn.turn_heads.Statement.{statement}
-use Rattle.build.proofs.turn.turn_heads.Tie as tie
+use Rattle.turns.proofs.turn_heads.Statement.{statement}
+use Rattle.turns.proofs.turn_heads.Tie as tie
 
 body-at-requires : tie.Need-body-at-requires
 body-at-requires c κs =
@@ -86,9 +86,13 @@ jump-at-requires c κs =
     let c6 = c3 .before .before .before in
     let c8 = c6 .before .before in
     let c11 = c8 .before .before .before in
-    let c17 = c11 .before .before .before .before .before .before in
-    (c17 .pre, ((c11 .body-at .ensures .0, c11 .body-at .ensures .1, c3 .if2 .taken),
-    slot-cut _ _ _ _ (c6 .slot-of .ensures .0) (c8 .cells .ensures) _))
+    let c17 = c11 .before .before .before .before .before .before in (
+      c17 .pre,
+      (
+        (c11 .body-at .ensures .0, c11 .body-at .ensures .1, c3 .if2 .taken),
+        slot-cut _ _ _ _ (c6 .slot-of .ensures .0) (c8 .cells .ensures) _,
+      ),
+    )
 
 same-length-3 : tie.Need-same-length-3
 same-length-3 c = search needs

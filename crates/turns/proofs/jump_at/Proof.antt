@@ -1,11 +1,11 @@
-use Rattle.build.specs.Slots.{slot-cut, slot-fits}
-use Rattle.build.specs.TurnLaws.{place, label-ends, jumping, jump-turned}
+use Rattle.turns.specs.Slots.{slot-cut, slot-fits}
+use Rattle.turns.specs.TurnLaws.{place, label-ends, jumping, jump-turned}
 use Rattle.program.specs.Standing.{inside, label-there, most-cells}
 use native.Mathlib.Omega.{arith}
 use mathlib.Core.Path.{_∙_, refl}
 use borrow.Author.Needs.{needs}
-use Rattle.build.proofs.turn.jump_at.Statement.{statement}
-use Rattle.build.proofs.turn.jump_at.Tie as tie
+use Rattle.turns.proofs.jump_at.Statement.{statement}
+use Rattle.turns.proofs.jump_at.Tie as tie
 
 shared-slice-read-code : tie.Need-shared-slice-read-code
 shared-slice-read-code c = inside _ _ _ _ (place _ _ _ _ _ _ _ _ _ (c .before .before .before .before .before .before .before .pre .0)) _ (c .before .before .before .before .before .before .before .pre .1 .0 .0)
@@ -29,9 +29,10 @@ slot-of-requires c κs =
     let c1 = c .before in
     let c2 = c1 .before in
     let c10 = c2 .before .before .before .before .before .before .before .before in
-    let e = c .of-word .ensures ∙ c1 .word .ensures .0 in
-    (label-ends _ _ _ _ _ _ _ _ _ (c10 .pre .0) _ _ (c10 .pre .1 .0 .0) refl (c10 .pre .1 .0 .2) _ e .0,
-    omega (arith, most-cells _ _ _ _ (place _ _ _ _ _ _ _ _ _ (c10 .pre .0)), c2 .cells .ensures))
+    let e = c .of-word .ensures ∙ c1 .word .ensures .0 in (
+      label-ends _ _ _ _ _ _ _ _ _ (c10 .pre .0) _ _ (c10 .pre .1 .0 .0) refl (c10 .pre .1 .0 .2) _ e .0,
+      omega (arith, most-cells _ _ _ _ (place _ _ _ _ _ _ _ _ _ (c10 .pre .0)), c2 .cells .ensures),
+    )
 
 add-to : tie.Need-add-to
 add-to c = search needs
