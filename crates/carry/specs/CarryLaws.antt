@@ -33,6 +33,7 @@ use Rattle.storage.specs.Moves.{Replacing, replacing-none, replacing-more, repl
 use Rattle.rows.specs.Entries.{nodeRow}
 use Rattle.rows.specs.Table.{Stored, Holds, Addable, Adds, Gives}
 use Rattle.rows.specs.Adding.{holds-add, stored-length}
+use Rattle.rows.specs.Making.{add-still, open-before}
 use Rattle.rows.specs.declared.node.Node.{Node}
 use Rattle.rows.specs.declared.node.Node.the-variants.{Leaf, Not, Two}
 use Rattle.rows.specs.declared.table.Table.{Table}
@@ -278,14 +279,6 @@ module _ (first second : List ℕ) (shape : Shape) (p : Pair first second shape)
         gives : Gives after x (add (M (L + j) .tab) (new j))
         gives = holds-add (carried-canonical (L + j) (omega (arith, sizeY))) (g .holds) a size (new j) (new-ready j h) new-is
 
-        -- A table that is not refused now was not refused before.
-        open-before : x .table .refused ≡ false → s .refused ≡ false
-        open-before f = go (s .refused) refl
-          where
-            go : (b : Bool) → s .refused ≡ b → b ≡ false
-            go true q = sym (ap (λ (t : Table). t .refused) (a .idle q .0) ∙ q) ∙ f
-            go false q = refl
-
         pub carrying-more : Carrying first second shape after (x .table) (set numbers j (x .row .0)) (j + 1)
         carrying-more =
             let st = step j h in
@@ -299,7 +292,7 @@ module _ (first second : List ℕ) (shape : Shape) (p : Pair first second shape)
               holds = rw (st .tab) (gives .holds);
               noted = λ f i l. elim (decLt i j) [
                 | yes k ↦ rw (st .news, snoc-old (M (L + j) .new) _ (L + j) (carry-size add (X .tab) (X .heads) (Y .tab) (Y .heads) (L + j)) (L + i) (omega arith))
-                    (getD-set-other numbers j i (x .row .0) 0 (omega arith) ∙ g .noted (open-before f) i k)
+                    (getD-set-other numbers j i (x .row .0) 0 (omega arith) ∙ g .noted (open-before (add-still a) f) i k)
                 | no k ↦
                     let u : i ≡ j = omega arith in
                     rw (

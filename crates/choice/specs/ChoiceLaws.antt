@@ -11,7 +11,6 @@ use borrow.Author.Tests.{eq-eqb, ne-eqb}
 use Rattle.rules.specs.Rows.{Row, inv, bin, add}
 use Rattle.rules.specs.Rows as R
 use Rattle.rules.specs.Sets.{Heads, each, fourRows, choose, choice}
-use Rattle.laws.specs.Verdict.{no-false}
 use Rattle.laws.specs.Canonical.{Canonical}
 use Rattle.laws.specs.Rows.{meaning}
 use Rattle.laws.specs.Rule.{Ready, Sound, add-sound}
@@ -21,32 +20,11 @@ use Rattle.laws.specs.Choice.{each-more, each-count, each-grown, choose-grown, 
 use Rattle.base.specs.declared.kinds.Row as K
 use Rattle.rows.specs.Table.{Holds, Addable, Adds, Gives}
 use Rattle.rows.specs.Adding.{holds-add}
-use Rattle.rows.specs.Making.{Drawn, addable}
-use Rattle.rows.specs.declared.node.Node.{Node}
+use Rattle.rows.specs.Making.{Drawn, addable, add-still, open-before, over-more, drawn-over}
 use Rattle.rows.specs.declared.node.Node.the-variants.{Not, Two}
 use Rattle.rows.specs.declared.table.Table.{Table}
 use Rattle.rows.specs.declared.table.Added.{Added}
 use Rattle.choice.specs.Choosing.{Among, Choosable, Picks, Choosing, Chooses}
-
--- ---- refused or not
-
--- A table that was refused stays so.
-pub add-still : {rows after : List ℕ} {s : Table} {n : Node} {x : Added} → Adds rows s n x after → s .refused ≡ true
-    → x .table .refused ≡ true
-add-still a q = ap (λ (t : Table). t .refused) (a .idle q .0) ∙ q
-
--- Where what was refused stays so, what is not refused now was not refused before.
-pub open-before : {b z : Bool} → (b ≡ true → z ≡ true) → z ≡ false → b ≡ false
-open-before {b} {z} still f = go b refl
-  where
-    go : (a : Bool) → b ≡ a → a ≡ false
-    go true q = sym (still q) ∙ f
-    go false q = refl
-
--- A state that stays refused stands for any table that is no shorter.
-over-more : {rows after : List ℕ} {s z : Table} {t u : List Row} → Holds rows s t → s .refused ≡ true → z .refused ≡ true
-    → length after ≡ length rows → length t ≤ length u → Holds after z u
-over-more h e q size l = record { kept = λ f. absurd (no-false (sym f ∙ q)); over = λ _. omega (arith, h .over e, size) }
 
 -- ---- four operations
 
@@ -268,10 +246,7 @@ module _ {C f : ℕ} {y before : List ℕ} {start : Table} {was : List ℕ} (w :
 
   -- A table that is refused from the start.
   pub chosen-refused : start .refused ≡ true → Drawn before start was (choice (X .tab) f (X .heads) y)
-  chosen-refused e = record {
-    holds = over-more (w .drawn .holds) e e refl (ext-length (grown-ext (choice-grown (X .tab) f (X .heads) y)));
-    same = λ q. absurd (no-false (sym q ∙ e));
-  }
+  chosen-refused e = drawn-over (w .drawn .holds) e (ext-length (grown-ext (choice-grown (X .tab) f (X .heads) y)))
 
 -- What holds of all heads that the start stands for.
 pub chooses-each : {C f : ℕ} {y rows : List ℕ} {s : Table} {made rows′ : List ℕ} {s′ : Table} {made′ : List ℕ} → length made ≡ C

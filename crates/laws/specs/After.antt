@@ -51,7 +51,7 @@ carryOne-grown x m (leaf i) = bare (m .tab)
 carryOne-grown x m (inv a) = grown-one (m .tab) (inv (getD (m .new) a 0))
 carryOne-grown x m (bin o a b) = grown-one (m .tab) (bin o (getD (m .new) a 0) (getD (m .new) b 0))
 
-carryRow-grown : (x : List ℕ) (m : Carried) (r : Row) (b : Bool) → Grown (m .tab) (carryRow add x m r b .tab)
+pub carryRow-grown : (x : List ℕ) (m : Carried) (r : Row) (b : Bool) → Grown (m .tab) (carryRow add x m r b .tab)
 carryRow-grown x m r false = bare (m .tab)
 carryRow-grown x m r true = carryOne-grown x m r
 

@@ -1,14 +1,24 @@
 // New numbers for the rows that are reached (R36).
 use crate::mark::mark_reached;
+use base::kinds::Row;
 use base::shape::Shape;
 ghost use mathlib.Core.Path.{_≡_};
 ghost use Prim.Native.Nat.{_<_, _≤_};
-ghost use lib.ListN.{length};
+ghost use lib.ListN.{length, getD};
 ghost use Rattle.rules.specs.Shape.{cells};
 ghost use Rattle.base.specs.Answers.{shapeOf};
 ghost use Rattle.rows.specs.Entries.{tableIn};
 ghost use Rattle.reach.specs.Tabled.{Tabled};
 ghost use Rattle.reach.specs.Numbers.{numbering, numberRow, numberRows, Numbered};
+
+// The number that a row got.
+pub fn number_of(numbers: &[u16], r: Row) -> Row
+    requires { ⌜ r .0 < length (now numbers) ⌝ }
+    ensures { λ n. ⌜ n .0 ≡ getD (now (numbers .entry)) (r .0) 0 ⌝ }
+{
+    let at = r.0 as usize;
+    Row(numbers[at])
+}
 
 // R36: the new number of row k. A constant or cell keeps its own, a marked operation row gets the next one, any other stays 0. Answers the next number.
 fn number_row(numbers: &mut [u16], leaves: usize, k: usize, next: usize) -> usize

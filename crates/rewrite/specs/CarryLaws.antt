@@ -9,18 +9,19 @@ use lib.ListN.{length, getD, set, length-map, length-set}
 use lib.Seq.{getD-set-same, getD-set-other}
 use borrow.Author.Tests.{eq-eqb, ne-eqb, not-true, not-false}
 use Rattle.rules.specs.Rows.{Row, leaf, inv, bin, rowAt, add, Added}
-use Rattle.rules.specs.Sets.{Carried, reaches, carryOne, carryRow, carry}
+use Rattle.rules.specs.Sets.{Carried, reaches, carryOne, carry}
 use Rattle.laws.specs.Verdict.{no-false}
 use Rattle.laws.specs.Lists.{getD-map}
 use Rattle.laws.specs.Canonical.{Below}
 use Rattle.laws.specs.Rule.{canonical-below}
-use Rattle.laws.specs.Grow.{ext-length, ext-row, add-extends, grown-ext}
-use Rattle.laws.specs.After.{Stage, leaf-own, carry-grown, carry-size, snoc-old, snoc-last, stages}
+use Rattle.laws.specs.Grow.{ext-length, ext-row, grown-ext}
+use Rattle.laws.specs.After.{Stage, leaf-own, carryRow-grown, carry-grown, carry-size, snoc-old, snoc-last, stages}
 use Rattle.base.specs.declared.kinds.Row as K
 use Rattle.storage.specs.Moves.{Replacing, replacing-none, replacing-more, replacing-whole}
 use Rattle.rows.specs.Entries.{nodeRow, rowOfEntry}
 use Rattle.rows.specs.Table.{Stored, Holds, Addable, Adds, Gives}
 use Rattle.rows.specs.Adding.{stored-length, stored-row}
+use Rattle.rows.specs.Making.{over-more}
 use Rattle.rows.specs.declared.node.Node.{Node}
 use Rattle.rows.specs.declared.node.Node.the-variants.{Leaf, Not, Two}
 use Rattle.rows.specs.declared.table.Table.{Table}
@@ -83,13 +84,6 @@ module _ (n : Node) (x rows : List ℕ) (s : Table) (numbers : List ℕ) (fits :
 
 -- ---- one row more
 
--- Carrying a row only grows the table.
-row-grows : (x : List ℕ) (m : Carried) (r : Row) (c : Bool) → length (m .tab) ≤ length (carryRow add x m r c .tab)
-row-grows x m r false = omega arith
-row-grows x m (leaf i) true = omega arith
-row-grows x m (inv a) true = ext-length (add-extends (m .tab) (inv (getD (m .new) a 0)))
-row-grows x m (bin o a b) true = ext-length (add-extends (m .tab) (bin o (getD (m .new) a 0) (getD (m .new) b 0)))
-
 -- Carrying a row looks at no number but those of its operands.
 one-agrees : (x : List ℕ) (m : Carried) (numbers : List ℕ) (k : ℕ) → ((i : ℕ) → i < k → getD numbers i 0 ≡ getD (m .new) i 0)
     → (r : Row) → Below k r → carryOne add x (record { tab = m .tab; new = numbers }) r ≡ carryOne add x m r
@@ -120,7 +114,7 @@ module _ {x : List ℕ} (b : Both x) (rows : List ℕ) (s : Table) (numbers : Li
 
   grown : length (M k .tab) ≤ length (M (suc k) .tab)
   unfolding carry
-  grown = row-grows x (M k) row (reaches (b .tab) (b .second) k)
+  grown = ext-length (grown-ext (carryRow-grown x (M k) row (reaches (b .tab) (b .second) k)))
 
   -- The state after the row, which got the number a.
   next : (rows′ : List ℕ) (s′ : Table) (numbers′ : List ℕ) (a : ℕ) → Holds rows′ s′ (M (suc k) .tab)
@@ -147,7 +141,7 @@ module _ {x : List ℕ} (b : Both x) (rows : List ℕ) (s : Table) (numbers : Li
   -- A table that is refused stays as it is.
   pub turn-over : s .refused ≡ true → Carrying b rows s numbers (k + 1)
   turn-over e = next rows s numbers 0
-      (record { kept = λ f. absurd (no-false (sym f ∙ e)); over = λ _. omega (arith, g .holds .over e, grown) }) refl
+      (over-more (g .holds) e e refl grown) refl
       (λ i _. refl) (λ f. absurd (no-false (sym f ∙ e)))
 
   module _ (f : s .refused ≡ false) where

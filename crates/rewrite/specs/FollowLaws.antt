@@ -13,7 +13,7 @@ use Rattle.laws.specs.Lists.{map-ext}
 use Rattle.laws.specs.Grow.{ext-length, grown-ext}
 use Rattle.laws.specs.After.{Stands, over, after-grown}
 use Rattle.rows.specs.Entries.{tableIn}
-use Rattle.rows.specs.Making.{Drawn}
+use Rattle.rows.specs.Making.{Drawn, drawn-over}
 use Rattle.rows.specs.Adding.{stored-length}
 use Rattle.rows.specs.declared.table.Table.{Table}
 use Rattle.reach.specs.Tabled.{Tabled}
@@ -24,12 +24,7 @@ use Rattle.rewrite.specs.Follow.{Following, Follows}
 module _ (sh : Shape) (y rows : List ℕ) (s : Table) (made : List ℕ) where
   -- A table that is refused stays as it is.
   pub follow-idle : s .refused ≡ true → Follows sh y rows s made rows s made
-  follow-idle e X d p q =
-      let grows = ext-length (grown-ext (after-grown (X .tab) (X .heads) (X .tab) y)) in
-      record {
-        holds = record { kept = λ f. absurd (no-false (sym f ∙ e)); over = λ _. omega (arith, d .holds .over e, grows) };
-        same = λ f. absurd (no-false (sym f ∙ e));
-      }
+  follow-idle e X d p q = drawn-over (d .holds) e (ext-length (grown-ext (after-grown (X .tab) (X .heads) (X .tab) y)))
 
   module _ (f : s .refused ≡ false) where
     -- The rules' table is the one in the slice, so the rows that y reaches can be marked.

@@ -2,6 +2,7 @@
 use base::kinds::Row;
 use base::shape::Shape;
 use reach::mark::mark_reached;
+use reach::number::number_of;
 use rows::node::Node;
 use rows::node::node_of;
 use rows::table::Added;
@@ -27,15 +28,6 @@ fn head_of(x: &[u16], i: Row) -> Row
         return i;
     }
     Row(x[at - 2])
-}
-
-// R34: the number that a row got.
-fn number_of(numbers: &[u16], i: Row) -> Row
-    requires { ⌜ i .0 < length (now numbers) ⌝ }
-    ensures { λ r. ⌜ r .0 ≡ getD (now (numbers .entry)) (i .0) 0 ⌝ }
-{
-    let at = i.0 as usize;
-    Row(numbers[at])
 }
 
 // R34: carries a row that is reached: a constant stays, a cell becomes the first set's head, an operation is added with its

@@ -1,7 +1,7 @@
 -- The row of an expression made in a lent slice: a constant or a cell, NOT of one that is made, AND or OR of two.
-use Prim.Native.Nat.{ℕ, _≤_, _<_}
-use mathlib.Core.Path.{_≡_, refl, ap, ap₂}
-use mathlib.Core.Bool.{Bool, true, false}
+use Prim.Native.Nat.{ℕ, _<_}
+use mathlib.Core.Path.{_≡_, ap, ap₂}
+use mathlib.Core.Bool.{Bool, false}
 use mathlib.Core.List.{List}
 use native.Mathlib.Omega.{arith}
 use lib.ListN.{length}
@@ -15,8 +15,8 @@ use Rattle.laws.specs.Build.{addExp-grown, addExp-sound}
 use Rattle.laws.specs.Own.{Simple, simpleRow, simple-added}
 use Rattle.base.specs.declared.kinds.Row as K
 use Rattle.rows.specs.Table.{Holds, Addable, Adds}
-use Rattle.rows.specs.Adding.{holds-add, stored-length}
-use Rattle.rows.specs.Making.{Open, Makes, addable}
+use Rattle.rows.specs.Adding.{holds-add}
+use Rattle.rows.specs.Making.{Open, Makes, addable, open-smaller}
 use Rattle.rows.specs.declared.node.Node.the-variants.{Not, Two}
 use Rattle.rows.specs.declared.table.Table.{Table}
 use Rattle.rows.specs.declared.table.Added.{Added}
@@ -24,15 +24,6 @@ use Rattle.rows.specs.declared.table.Added.{Added}
 -- R37: what is left, and the row that is answered, are what adding the expression x makes of any table that the state stood for.
 pub record Made (C : ℕ) (rows : List ℕ) (s : Table) (x : Exp) (a : Added) (after : List ℕ) : Type 0 where
   pub gives : Makes C rows s (λ t. addExp t x) a after
-
--- A state that is not refused was not refused while its table was smaller.
-open-before : {rows after : List ℕ} {s z : Table} {t u : List Row} → Holds rows s t → Holds after z u → length t ≤ length u
-    → length after ≡ length rows → z .refused ≡ false → s .refused ≡ false
-open-before {s = s} g h l size f = go (s .refused) refl
-  where
-    go : (b : Bool) → s .refused ≡ b → b ≡ false
-    go true e = absurd (omega (arith, g .over e, h .kept f .held, stored-length (h .kept f)))
-    go false e = refl
 
 -- R26: a constant or a cell is a row that stands.
 pub made-simple : (C : ℕ) (rows : List ℕ) (s : Table) (x : Exp) → Simple x → (r : K.Row) → r .0 ≡ simpleRow x
@@ -88,7 +79,7 @@ module _ {C : ℕ} {rows mid : List ℕ} {s : Table} {x : Exp} {a : Added} (ox :
           holds = q .holds;
           left = omega (arith, z .low, grows);
           right = v .low;
-          first = λ f. p .row (open-before (p .holds) (q .holds) grows kept f);
+          first = λ f. p .row (open-smaller (p .holds) (q .holds) grows kept f);
           second = q .row;
         }
 

@@ -29,7 +29,7 @@ use Rattle.base.specs.declared.kinds.Instr as K
 use Rattle.program.specs.Contracts.{farthest}
 use Rattle.program.specs.Codes.{aloneOf, onVariable, onLabel}
 use Rattle.program.specs.Standing.{programIn, instrAt, Standing, standing-at, formed, deep, tells, with-value, with-variable, goes, later}
-use Rattle.rows.specs.Making.{Drawn}
+use Rattle.rows.specs.Making.{Drawn, over-more}
 use Rattle.rows.specs.declared.table.Table.{Table}
 use Rattle.own.specs.Owning.{ownOf, Owning, Owns}
 use Rattle.rewrite.specs.Follow.{Following, Follows}
@@ -62,10 +62,7 @@ module _ (file : List ℕ) (sh : Shape) (n i : ℕ) (r : Standing file sh n i) w
         standing = b .standing;
         high = omega (arith, r .low);
         heads-lent = b .heads-lent;
-        holds = record {
-          kept = λ f. absurd (no-false (sym f ∙ e));
-          over = λ _. omega (arith, (rw z at (b .holds)) .over e, longer);
-        };
+        holds = over-more (rw z at (b .holds)) e e refl longer;
         slots = λ f. absurd (no-false (sym f ∙ e));
       }
 

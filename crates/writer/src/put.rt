@@ -1,6 +1,7 @@
 // The parts of a set file, written at their places (R5, R7, R41, R42).
 use base::kinds::Row;
 use base::shape::Shape;
+use reach::number::number_of;
 use rows::node::Node;
 use rows::node::node_of;
 ghost use mathlib.Core.Path.{_≡_};
@@ -52,15 +53,6 @@ pub fn put_own_heads(out: &mut [u8], cells: usize)
     }
 }
 
-// R36: the new number of a row.
-fn number_of(numbers: &[u16], r: Row) -> u16
-    requires { ⌜ r .0 < length (now numbers) ⌝ }
-    ensures { λ n. ⌜ n ≡ getD (now (numbers .entry)) (r .0) 0 ⌝ }
-{
-    let at = r.0 as usize;
-    numbers[at]
-}
-
 // R36, R41: the heads, renumbered.
 pub fn put_heads(out: &mut [u8], heads: &[u16], numbers: &[u16])
     requires { ⌜ (7 + 2 * length (now heads) ≤ length (now out)) × ((c : ℕ) → getD (now heads) c 0 < length (now numbers)) ⌝ }
@@ -70,7 +62,8 @@ pub fn put_heads(out: &mut [u8], heads: &[u16], numbers: &[u16])
 {
     let mut i = 0;
     while i < heads.len() {
-        put_word(out, 7 + 2 * i, number_of(numbers, Row(heads[i])));
+        let head = number_of(numbers, Row(heads[i]));
+        put_word(out, 7 + 2 * i, head.0);
         i += 1;
     }
 }
@@ -92,14 +85,17 @@ fn put_row(out: &mut [u8], at: usize, node: Node, numbers: &[u16])
 {
     match node {
         Node::Leaf(i) => put_parts(out, at, 0, i.0, 0),
-        Node::Not(a) => put_parts(out, at, 1, number_of(numbers, a), 0),
+        Node::Not(a) => {
+            let left = number_of(numbers, a);
+            put_parts(out, at, 1, left.0, 0);
+        }
         Node::Two(o, a, b) => {
             let left = number_of(numbers, a);
             let right = number_of(numbers, b);
             if o {
-                put_parts(out, at, 2, left, right);
+                put_parts(out, at, 2, left.0, right.0);
             } else {
-                put_parts(out, at, 3, left, right);
+                put_parts(out, at, 3, left.0, right.0);
             }
         }
     }

@@ -1,6 +1,7 @@
 -- `four_rows` meets its contract.
 use borrow.Author.Needs.{needs}
-use Rattle.choice.specs.ChoiceLaws.{add-still, open-before, not-addable, and-addable, other-addable, halves-addable, four-picks}
+use Rattle.rows.specs.Making.{add-still, open-before}
+use Rattle.choice.specs.ChoiceLaws.{not-addable, and-addable, other-addable, halves-addable, four-picks}
 use Rattle.choice.proofs.four_rows.Statement.{statement}
 use Rattle.choice.proofs.four_rows.Tie as tie
 

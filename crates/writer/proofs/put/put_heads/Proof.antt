@@ -16,22 +16,20 @@ abbrev μ-loop : tie.MeasureT-loop
 loop-holds : tie.Need-loop-holds Inv-loop μ-loop
 loop-holds c = words-none
 
+mul-t6 : tie.Need-mul-t6 Inv-loop μ-loop
+mul-t6 c = search needs
+
+shared-slice-read-t9 : tie.Need-shared-slice-read-t9 Inv-loop μ-loop
+shared-slice-read-t9 c = search needs
+
+number-of-requires : tie.Need-number-of-requires Inv-loop μ-loop
+number-of-requires c κs = c .before .before .before .before .before .before .pre .1 _
+
 mul-put-word : tie.Need-mul-put-word Inv-loop μ-loop
 mul-put-word c = search needs
 
 add-put-word : tie.Need-add-put-word Inv-loop μ-loop
 add-put-word c = search needs
-
-mul-t12 : tie.Need-mul-t12 Inv-loop μ-loop
-mul-t12 c = search needs
-
-shared-slice-read-t14 : tie.Need-shared-slice-read-t14 Inv-loop μ-loop
-shared-slice-read-t14 c = search needs
-
-number-of-requires : tie.Need-number-of-requires Inv-loop μ-loop
-number-of-requires c κs =
-    let c7 = c .before .before .before .before .before .before .before in
-    c7 .pre .1 _
 
 put-word-requires : tie.Need-put-word-requires Inv-loop μ-loop
 put-word-requires c κs = search needs
@@ -44,20 +42,22 @@ loop-less c = search needs
 
 loop-again : tie.Need-loop-again Inv-loop μ-loop
 loop-again c =
-    let c3 = c .before .before .before in
-    let c7 = c3 .before .before .before .before in
+    let c2 = c .before .before in
+    let c4 = c2 .before .before in
+    let c7 = c4 .before .before .before in
     let c11 = c7 .before .before .before .before in
     let a = c11 .args in
-    head-more (a .numbers .now) (a .heads .now) (c7 .loop .inv) (omega arith) _ _
-    (c3 .number-of .ensures) (c .before .before .put-word .ensures)
+    head-more (a .numbers .now) (a .heads .now) (c7 .loop .inv) (omega arith) _ _ (c4 .number-of .ensures) (c2 .put-word .ensures)
 
 same-length : tie.Need-same-length Inv-loop μ-loop
 same-length c = search needs
 
 returns : tie.Need-returns Inv-loop μ-loop
 returns c =
-    let c5 = c .before .before .before .before .before in
-    let a = c5 .args in head-all (a .numbers .now) (a .heads .now) (c .before .loop .inv) (omega arith)
+    let c1 = c .before in
+    let c5 = c1 .before .before .before .before in
+    let a = c5 .args in
+    head-all (a .numbers .now) (a .heads .now) (c1 .loop .inv) (omega arith)
 
 pub put-heads-spec : {M : Type 1} → statement M
 put-heads-spec =
@@ -66,11 +66,11 @@ put-heads-spec =
     Inv-loop
     μ-loop
     loop-holds
+    mul-t6
+    shared-slice-read-t9
+    number-of-requires
     mul-put-word
     add-put-word
-    mul-t12
-    shared-slice-read-t14
-    number-of-requires
     put-word-requires
     add-i
     loop-less

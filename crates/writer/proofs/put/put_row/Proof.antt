@@ -16,9 +16,10 @@ enum-known-node-2 c = search needs
 
 number-of-requires : tie.Need-number-of-requires
 number-of-requires c κs =
-    let c6 = c .before .before .before .before .before .before in
-    let s = c6 in
-    let e : s .args .node ≡ Not (c .before .before .node2 .given .0 .0) = cc in rw e at (s .pre .1)
+    let c1 = c .before in
+    let c5 = c1 .before .before .before .before in
+    let e : c5 .args .node ≡ Not (c1 .node2 .given .0 .0) = cc in
+    rw e at (c5 .pre .1)
 
 put-parts-requires-2 : tie.Need-put-parts-requires-2
 put-parts-requires-2 c κs = search needs
@@ -28,17 +29,19 @@ enum-known-node-3 c = search needs
 
 number-of-requires-2 : tie.Need-number-of-requires-2
 number-of-requires-2 c κs =
-    let c5 = c .before .before .before .before .before in
-    let s = c5 in
-    let n = c .before .node3 .given .0 in
-    let e : s .args .node ≡ Two (n .0) (n .1 .0) (n .1 .1 .0) = cc in (rw e at (s .pre .1)) .0
+    let c1 = c .before in
+    let c5 = c1 .before .before .before .before in
+    let n = c1 .node3 .given .0 in
+    let e : c5 .args .node ≡ Two (n .0) (n .1 .0) (n .1 .1 .0) = cc in
+    (rw e at (c5 .pre .1)) .0
 
 number-of-requires-3 : tie.Need-number-of-requires-3
 number-of-requires-3 c κs =
-    let c6 = c .before .before .before .before .before .before in
-    let s = c6 in
-    let n = c .before .before .node3 .given .0 in
-    let e : s .args .node ≡ Two (n .0) (n .1 .0) (n .1 .1 .0) = cc in (rw e at (s .pre .1)) .1
+    let c2 = c .before .before in
+    let c6 = c2 .before .before .before .before in
+    let n = c2 .node3 .given .0 in
+    let e : c6 .args .node ≡ Two (n .0) (n .1 .0) (n .1 .1 .0) = cc in
+    (rw e at (c6 .pre .1)) .1
 
 put-parts-requires-3 : tie.Need-put-parts-requires-3
 put-parts-requires-3 c κs = search needs
@@ -51,41 +54,43 @@ same-length c = search needs
 
 returns : tie.Need-returns
 returns c =
-    let c5 = c .before .before .before .before .before in
-    leaf-put _ (c5 .node .given .1) (c .before .before .put-parts .ensures)
+    let c2 = c .before .before in
+    let c5 = c2 .before .before .before in
+    leaf-put _ (c5 .node .given .1) (c2 .put-parts .ensures)
 
 same-length-2 : tie.Need-same-length-2
 same-length-2 c = search needs
 
 returns-2 : tie.Need-returns-2
 returns-2 c =
-    let c3 = c .before .before .before in
-    let c6 = c3 .before .before .before in
-    not-put _ _ (c6 .node2 .given .1) (c3 .number-of .ensures) (c .before .before .put-parts2 .ensures)
+    let c2 = c .before .before in
+    let c4 = c2 .before .before in
+    let c6 = c4 .before .before in
+    not-put _ _ (c6 .node2 .given .1) (c4 .number-of .ensures) (c2 .put-parts2 .ensures)
 
 same-length-3 : tie.Need-same-length-3
 same-length-3 c = search needs
 
 returns-3 : tie.Need-returns-3
 returns-3 c =
-    let c4 = c .before .before .before .before in
+    let c2 = c .before .before in
+    let c4 = c2 .before .before in
     let c5 = c4 .before in
     let c6 = c5 .before in
     let c8 = c6 .before .before in
-    and-put _ _ _ _ _ (c8 .node3 .given .1) (c4 .if1 .taken)
-    (c6 .number-of2 .ensures) (c5 .number-of3 .ensures) (c .before .before .put-parts3 .ensures)
+    and-put _ _ _ _ _ (c8 .node3 .given .1) (c4 .if1 .taken) (c6 .number-of2 .ensures) (c5 .number-of3 .ensures) (c2 .put-parts3 .ensures)
 
 same-length-4 : tie.Need-same-length-4
 same-length-4 c = search needs
 
 returns-4 : tie.Need-returns-4
 returns-4 c =
-    let c4 = c .before .before .before .before in
+    let c2 = c .before .before in
+    let c4 = c2 .before .before in
     let c5 = c4 .before in
     let c6 = c5 .before in
     let c8 = c6 .before .before in
-    or-put _ _ _ _ _ (c8 .node3 .given .1) (c4 .if1 .left)
-    (c6 .number-of2 .ensures) (c5 .number-of3 .ensures) (c .before .before .put-parts4 .ensures)
+    or-put _ _ _ _ _ (c8 .node3 .given .1) (c4 .if1 .left) (c6 .number-of2 .ensures) (c5 .number-of3 .ensures) (c2 .put-parts4 .ensures)
 
 pub put-row-spec : {M : Type 1} → statement M
 put-row-spec =
