@@ -5,7 +5,7 @@ use mathlib.Core.Bool.{Bool, true, false}
 use mathlib.Core.List.{List, [], _∷_, _++_}
 use native.Mathlib.Omega.{arith}
 use native.Mathlib.Decide.{decLt}
-use lib.ListN.{length, getD, set, length-map, length-set}
+use lib.ListN.{length, getD, set, length-set}
 use lib.Seq.{getD-set-same, getD-set-other}
 use borrow.Author.Tests.{lt-ltb, le-ltb}
 use Rattle.rules.specs.Edition.{old}
@@ -17,7 +17,7 @@ use Rattle.rules.specs.Sets.{Carried, carry, reaches, after}
 use Rattle.rules.specs.SetFile.{TransferSet, leaves, headAt, named}
 use Rattle.rules.specs.Operations.{composed}
 use Rattle.laws.specs.Verdict.{no-false}
-use Rattle.laws.specs.Lists.{getD-map, map-ext, elem-at}
+use Rattle.laws.specs.Lists.{map-ext, elem-at}
 use Rattle.laws.specs.Canonical.{Operands, Below, Canonical}
 use Rattle.laws.specs.Rule.{Ready, canonical-ready, canonical-below}
 use Rattle.laws.specs.Reach.{needs-keeps, reaches-operands}
@@ -29,7 +29,7 @@ use Rattle.laws.specs.Room.{add-one-row}
 use Rattle.base.specs.Answers.{shapeOf}
 use Rattle.base.specs.declared.shape.Shape.{Shape}
 use Rattle.base.specs.declared.kinds.Row as K
-use Rattle.storage.specs.Moves.{Replacing, replacing-none, replacing-more, replacing-whole}
+use Rattle.storage.specs.Moves.{Replacing, mapping-more, mapping-all}
 use Rattle.rows.specs.Entries.{nodeRow}
 use Rattle.rows.specs.Table.{Stored, Holds, Addable, Adds, Gives}
 use Rattle.rows.specs.Adding.{holds-add, stored-length}
@@ -351,9 +351,6 @@ module _ (first second : List ℕ) (shape : Shape) (p : Pair first second shape)
     abbrev given : List ℕ
     given = newHeads first second shape numbers
 
-    given-length : length given ≡ n
-    given-length = length-map (Y .heads) (newNumber first L numbers) ∙ headsY ∙ sym (w .count)
-
     pub head-there : (c : ℕ) → c < n → headAt old c + 2 ≤ length second
     head-there c h = omega (arith, w .count, p .two .size, ap cells second-shape)
 
@@ -367,19 +364,15 @@ module _ (first second : List ℕ) (shape : Shape) (p : Pair first second shape)
       noted = λ a. omega (arith, head-is c h l q, standsY .low c, sizeY, w .long);
     }
 
-    pub heads-none : (d : List ℕ) → Replacing d 0 given d 0
-    heads-none d = replacing-none (omega arith)
-
-    pub heads-more : (d u : List ℕ) (c h v : ℕ) → length d ≡ n → Replacing d 0 given u c → c < n
+    -- One head more a turn, and all of them.
+    pub heads-more : (d u : List ℕ) (c h v : ℕ) → length d ≡ n → Replacing d 0 given u c → c < length u
         → h ≡ numberAt 2 second (headAt old c) → v ≡ newNumber first L numbers h → Replacing d 0 given (set u c v) (c + 1)
     heads-more d u c h v size f l q e =
-        let z : c - 0 ≡ c = omega arith in
-        let at = getD-map (newNumber first L numbers) (Y .heads) c 0 0 (omega (arith, headsY, w .count)) in
-        replacing-more f (omega arith) (omega (arith, given-length))
-        (e ∙ ap (newNumber first L numbers) (head-is c h l q) ∙ rw z (sym at))
+        mapping-more (newNumber first L numbers) (Y .heads) (omega (arith, headsY, w .count)) 0 f l
+        (e ∙ ap (newNumber first L numbers) (head-is c h (omega (arith, f .size)) q))
 
-    pub heads-all : (d u : List ℕ) (c : ℕ) → length d ≡ n → Replacing d 0 given u c → n ≤ c → u ≡ given
-    heads-all d u c size f h = replacing-whole f (omega arith) (omega (arith, given-length))
+    pub heads-all : (d u : List ℕ) (c : ℕ) → length d ≡ n → Replacing d 0 given u c → length u ≤ c → u ≡ given
+    heads-all d u c size f h = mapping-all (newNumber first L numbers) (Y .heads) (omega (arith, headsY, w .count)) f h
 
 -- The turn after the last row.
 pub carrying-all : (first second : List ℕ) (shape : Shape) (rows : List ℕ) (s : Table) (numbers : List ℕ) (j : ℕ)

@@ -4,9 +4,10 @@ use mathlib.Core.Path.{_≡_, refl, sym, ap, _∙_}
 use mathlib.Core.Bool.{Bool, true, false, cond}
 use mathlib.Core.Logic.{_⊎_, inl, inr}
 use mathlib.Core.List.{List}
+use native.Mathlib.Nat.{zero-add}
 use native.Mathlib.Omega.{arith}
 use native.Mathlib.Decide.{decLt}
-use lib.ListN.{length, set, length-map}
+use lib.ListN.{length, set}
 use lib.Dec.{eqb, ltb}
 use borrow.Author.Tests.{lt-ltb, le-ltb, eq-eqb, ne-eqb}
 use Rattle.rules.specs.Lists.{from}
@@ -14,10 +15,10 @@ use Rattle.rules.specs.Shape.{Shape, vars, flag, cells}
 use Rattle.rules.specs.Expr.{Exp, con, cell}
 use Rattle.rules.specs.Instr.{Plain, INIT, NOT, TAND, TOR, PUSH, POP, DROP, DUP, LOAD, AND, OR, EPUSH, STORE, SET, RES, REDGE, FEDGE}
 use Rattle.rules.specs.Instr.{put, keep, stack, e, pushed, popped, effect}
-use Rattle.laws.specs.Lists.{length-from, getD-map-from}
+use Rattle.laws.specs.Lists.{length-from, getD-from}
 use Rattle.laws.specs.Own.{Simple, simpleRow}
 use Rattle.base.specs.declared.kinds.Cell.{Cell}
-use Rattle.storage.specs.Moves.{Replacing, replacing-more, replacing-whole}
+use Rattle.storage.specs.Moves.{Replacing, mapping-more, mapping-all}
 use Rattle.program.specs.Codes.{aloneOf, onExpr, onVariable}
 use Rattle.own.specs.declared.heads.Move.{Move}
 use Rattle.own.specs.declared.heads.Move.the-variants.{Kept, Pushed, Popped, Reset}
@@ -246,18 +247,17 @@ module _ (sh : Shape) (c : ℕ) where
 
 -- The loop that puts them: one head more a turn.
 module _ (sh : Shape) (m : Move) (d : List ℕ) (size : length d ≡ cells sh) where
-  moved-length : length (movedHeads sh m) ≡ cells sh
-  moved-length = length-map (from 0 (cells sh)) _ ∙ length-from 0 (cells sh)
+  long : length d ≡ length (from 0 (cells sh))
+  long = size ∙ sym (length-from 0 (cells sh))
 
   pub heads-more : (u : List ℕ) (c v : ℕ) → Replacing d 0 (movedHeads sh m) u c → c < length u → v ≡ simpleRow (movedBy sh m c)
       → Replacing d 0 (movedHeads sh m) (set u c v) (c + 1)
   heads-more u c v r l q =
-      let z : c - 0 ≡ c = omega arith in
-      replacing-more r (omega (arith, r .size)) (omega (arith, moved-length))
-      (q ∙ rw z (sym (getD-map-from _ 0 (cells sh) c (omega (arith, r .size)))))
+      mapping-more (λ k. simpleRow (movedBy sh m k)) (from 0 (cells sh)) long 0 r l
+      (q ∙ ap (λ k. simpleRow (movedBy sh m k)) (sym (getD-from 0 (cells sh) c 0 (omega (arith, r .size)) ∙ zero-add c)))
 
   pub heads-all : (u : List ℕ) (c : ℕ) → Replacing d 0 (movedHeads sh m) u c → length u ≤ c → u ≡ movedHeads sh m
-  heads-all u c r l = replacing-whole r (omega (arith, r .size)) (omega (arith, moved-length))
+  heads-all u c r l = mapping-all (λ k. simpleRow (movedBy sh m k)) (from 0 (cells sh)) long r l
 
 -- Then the cell that gets what another has, and the main cell.
 pub put-changed : (sh : Shape) (x : Change) (d : List ℕ) (v r : ℕ) → d ≡ movedHeads sh (x .stack) → v ≡ 2 + x .source .0

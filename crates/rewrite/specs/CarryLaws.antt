@@ -2,22 +2,20 @@
 use Prim.Native.Nat.{ℕ, zero, suc, _+_, _-_, _≤_, _<_}
 use mathlib.Core.Path.{_≡_, refl, ap, ap₂, sym, _∙_}
 use mathlib.Core.Bool.{Bool, true, false}
-use mathlib.Core.List.{List, [], _∷_, _++_, map}
+use mathlib.Core.List.{List, [], _∷_, _++_}
 use native.Mathlib.Omega.{arith}
 use native.Mathlib.Decide.{decLt}
-use lib.ListN.{length, getD, set, length-map, length-set}
+use lib.ListN.{length, getD, set, length-set}
 use lib.Seq.{getD-set-same, getD-set-other}
 use borrow.Author.Tests.{eq-eqb, ne-eqb, not-true, not-false}
 use Rattle.rules.specs.Rows.{Row, leaf, inv, bin, rowAt, add, Added}
 use Rattle.rules.specs.Sets.{Carried, reaches, carryOne, carry}
 use Rattle.laws.specs.Verdict.{no-false}
-use Rattle.laws.specs.Lists.{getD-map}
 use Rattle.laws.specs.Canonical.{Below}
 use Rattle.laws.specs.Rule.{canonical-below}
 use Rattle.laws.specs.Grow.{ext-length, ext-row, grown-ext}
 use Rattle.laws.specs.After.{Stage, leaf-own, carryRow-grown, carry-grown, carry-size, snoc-old, snoc-last, stages}
 use Rattle.base.specs.declared.kinds.Row as K
-use Rattle.storage.specs.Moves.{Replacing, replacing-none, replacing-more, replacing-whole}
 use Rattle.rows.specs.Entries.{nodeRow, rowOfEntry}
 use Rattle.rows.specs.Table.{Stored, Holds, Addable, Adds, Gives}
 use Rattle.rows.specs.Adding.{stored-length, stored-row}
@@ -26,7 +24,7 @@ use Rattle.rows.specs.declared.node.Node.{Node}
 use Rattle.rows.specs.declared.node.Node.the-variants.{Leaf, Not, Two}
 use Rattle.rows.specs.declared.table.Table.{Table}
 use Rattle.rows.specs.declared.table.Added as A
-use Rattle.rewrite.specs.Carrying.{Both, carried, Carrying, Fits, Puts, Turn, Turns, Start, Carries, Moving}
+use Rattle.rewrite.specs.Carrying.{Both, carried, Carrying, Fits, Puts, Turn, Turns, Start, Carries}
 
 -- ---- one row
 
@@ -229,26 +227,3 @@ module _ {x rows : List ℕ} {s : Table} {numbers : List ℕ} (w : Start x rows 
   carries-all h l b g =
       let z : k ≡ s .used = omega arith in
       rw z at (c b g)
-
--- ---- the heads
-
-module _ (numbers y : List ℕ) (n : ℕ) (w : Moving numbers y n) where
-  abbrev given : List ℕ
-  given = map (λ h. getD numbers h 0) y
-
-  -- One head more a turn.
-  given-length : length given ≡ n
-  given-length = length-map y _ ∙ sym (w .count)
-
-  pub heads-none : (d : List ℕ) → Replacing d 0 given d 0
-  heads-none d = replacing-none (omega arith)
-
-  pub heads-more : (d u : List ℕ) (c v : ℕ) → length d ≡ n → Replacing d 0 given u c → c < n → v ≡ getD numbers (getD y c 0) 0
-      → Replacing d 0 given (set u c v) (c + 1)
-  heads-more d u c v size f l e =
-      let z : c - 0 ≡ c = omega arith in
-      let at = getD-map (λ h. getD numbers h 0) y c 0 0 (omega (arith, w .count)) in
-      replacing-more f (omega arith) (omega (arith, given-length)) (e ∙ rw z (sym at))
-
-  pub heads-all : (d u : List ℕ) (c : ℕ) → length d ≡ n → Replacing d 0 given u c → n ≤ c → u ≡ given
-  heads-all d u c size f h = replacing-whole f (omega arith) (omega (arith, given-length))

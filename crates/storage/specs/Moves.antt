@@ -1,13 +1,14 @@
 -- A loop that replaces the end of a list from some place on, one store a turn.
 use Prim.Native.Nat.{ℕ, suc, _+_, _-_, _≤_, _<_}
 use mathlib.Core.Path.{_≡_, refl, ap, sym, _∙_}
-use mathlib.Core.List.{List, [], _∷_, _++_, append-nil, append-assoc}
+use mathlib.Core.List.{List, [], _∷_, _++_, map, append-nil, append-assoc}
 use native.Mathlib.Omega.{arith}
 use native.Mathlib.Numerals.{add-one}
 use lib.ListN.{length, getD, set, take, drop, replicate, length-append, length-set, length-drop}
-use lib.ListN.{length-replicate, getD-replicate, List·getD-append}
+use lib.ListN.{length-map, length-replicate, getD-replicate, List·getD-append}
 use lib.Seq.{paste, paste-zero, paste-suc, getD-set-other, drop-length, getD-drop}
 use lib.Seq.{getD-at, take-all, take-suc, set-at, length-take-le}
+use Rattle.laws.specs.Lists.{getD-map}
 use Rattle.storage.specs.Cells.{pushOn, dropTop, resetFrom}
 
 -- After the turns for the places from `at` up to i, s is d with the first elements of q there.
@@ -48,6 +49,17 @@ module _ {d : List ℕ} {at : ℕ} {q : List ℕ} where
 
   pub replacing-whole : {s : List ℕ} {i : ℕ} → Replacing d at q s i → length d ≤ i → length q ≤ length d - at → s ≡ take at d ++ q
   replacing-whole r h l = replacing-all r h ∙ ap (λ m. take at d ++ m) (take-all (length d - at) q l)
+
+-- A loop that fills a list with what f gives the elements of another, in their order.
+module _ {A : Type 0} (f : A → ℕ) (xs : List A) {d : List ℕ} (size : length d ≡ length xs) where
+  pub mapping-more : (z : A) {s : List ℕ} {i v : ℕ} → Replacing d 0 (map f xs) s i → i < length s → v ≡ f (getD xs i z)
+      → Replacing d 0 (map f xs) (set s i v) (i + 1)
+  mapping-more z {i = i} r h e =
+      let y : i - 0 ≡ i = omega arith in
+      replacing-more r (omega (arith, r .size)) (omega (arith, length-map xs f)) (e ∙ rw y (sym (getD-map f xs i z 0 (omega (arith, r .size)))))
+
+  pub mapping-all : {s : List ℕ} {i : ℕ} → Replacing d 0 (map f xs) s i → length s ≤ i → s ≡ map f xs
+  mapping-all r h = replacing-whole r (omega (arith, r .size)) (omega (arith, length-map xs f))
 
 -- An element of a list that begins with the end of another.
 pub getD-tail : (n : ℕ) (d t : List ℕ) (i : ℕ) → n + i < length d → getD (drop n d ++ t) i 0 ≡ getD d (n + i) 0

@@ -5,9 +5,9 @@ use native.Mathlib.Omega.{arith}
 use lib.ListN.{length}
 use borrow.Author.Needs.{needs}
 use Rattle.rules.specs.Shape.{cells}
-use Rattle.storage.specs.Moves.{Replacing}
+use Rattle.storage.specs.Moves.{Replacing, replacing-none}
 use Rattle.carry.specs.Carrying.{newHeads}
-use Rattle.carry.specs.CarryLaws.{head-there, head-known, heads-none, heads-more, heads-all}
+use Rattle.carry.specs.CarryLaws.{head-there, head-known, heads-more, heads-all}
 use Rattle.carry.proofs.move_heads.Statement.{statement}
 use Rattle.carry.proofs.move_heads.Tie as tie
 
@@ -19,8 +19,7 @@ abbrev μ-loop : tie.MeasureT-loop
 
 loop-holds : tie.Need-loop-holds Inv-loop μ-loop
 loop-holds c =
-    let c4 = c .before .before .before .before in
-    heads-none _ _ _ (c4 .pre .pair) _ _ (c4 .pre) _
+    replacing-none (omega arith)
 
 cast-t11 : tie.Need-cast-t11 Inv-loop μ-loop
 cast-t11 c =
@@ -65,7 +64,7 @@ loop-again c =
     let c3 = c .before .before .before in
     let c8 = c3 .before .before .before .before .before in
     heads-more _ _ _ (c8 .pre .pair) _ _ (c8 .pre) _ _ _ _ _ refl (c3 .loop .inv)
-    (omega (arith, c3 .loop .inv .size, c .before .before .loop-test .taken)) (c .before .head-in .ensures)
+    (c .before .before .loop-test .taken) (c .before .head-in .ensures)
     (c .number-of .ensures)
 
 same-length : tie.Need-same-length Inv-loop μ-loop
@@ -75,7 +74,7 @@ returns : tie.Need-returns Inv-loop μ-loop
 returns c =
     let c6 = c .before .before .before .before .before .before in
     heads-all _ _ _ (c6 .pre .pair) _ _ (c6 .pre) _ _ _ refl (c .before .loop .inv)
-    (omega (arith, c .before .loop .inv .size, c .loop-test .left))
+    (c .loop-test .left)
 
 pub move-heads-spec : {M : Type 1} → statement M
 move-heads-spec =

@@ -1,12 +1,10 @@
 -- `move_heads` meets its contract: one head more a turn.
 use Prim.Native.Nat.{_-_}
-use mathlib.Core.Path.{refl}
 use mathlib.Core.List.{map}
 use native.Mathlib.Omega.{arith}
 use lib.ListN.{length, getD}
 use borrow.Author.Needs.{needs}
-use Rattle.storage.specs.Moves.{Replacing}
-use Rattle.rewrite.specs.CarryLaws.{heads-none, heads-more, heads-all}
+use Rattle.storage.specs.Moves.{Replacing, replacing-none, mapping-more, mapping-all}
 use Rattle.rewrite.proofs.move_heads.Statement.{statement}
 use Rattle.rewrite.proofs.move_heads.Tie as tie
 
@@ -18,8 +16,7 @@ abbrev μ-loop : tie.MeasureT-loop
 
 loop-holds : tie.Need-loop-holds Inv-loop μ-loop
 loop-holds c =
-    let c3 = c .before .before .before in
-    heads-none _ _ _ (c3 .pre) _
+    replacing-none (omega arith)
 
 mul-t6 : tie.Need-mul-t6 Inv-loop μ-loop
 mul-t6 c = search needs
@@ -52,8 +49,7 @@ loop-again : tie.Need-loop-again Inv-loop μ-loop
 loop-again c =
     let c3 = c .before .before .before in
     let c7 = c3 .before .before .before .before in
-    heads-more _ _ _ (c7 .pre) _ _ _ _ refl (c3 .loop .inv) (omega (arith, c3 .loop .inv .size, c .before .before .loop-test .taken))
-    (c .number-of .ensures)
+    mapping-more _ _ (c7 .pre .count) _ (c3 .loop .inv) (c .before .before .loop-test .taken) (c .number-of .ensures)
 
 same-length : tie.Need-same-length Inv-loop μ-loop
 same-length c = c .before .loop .inv .size
@@ -61,7 +57,7 @@ same-length c = c .before .loop .inv .size
 returns : tie.Need-returns Inv-loop μ-loop
 returns c =
     let c5 = c .before .before .before .before .before in
-    heads-all _ _ _ (c5 .pre) _ _ _ refl (c .before .loop .inv) (omega (arith, c .before .loop .inv .size, c .loop-test .left))
+    mapping-all _ _ (c5 .pre .count) (c .before .loop .inv) (c .loop-test .left)
 
 pub move-heads-spec : {M : Type 1} → statement M
 move-heads-spec =
