@@ -10,6 +10,7 @@ use sets::read::row_in;
 use storage::Cells;
 use storage::bits::both;
 use storage::bits::either;
+use storage::bits::opposite;
 use storage::check_cells;
 ghost use mathlib.Core.Path.{_≡_};
 ghost use mathlib.Core.List.{_∷_};
@@ -19,13 +20,6 @@ ghost use Rattle.rows.specs.Entries.{nodeRow};
 ghost use Rattle.sets.specs.Spelt.{setIn, Taken};
 ghost use Rattle.evaluate.specs.Values.{byteOf, Worked, Evaluable, Valued, evaluatedBytes};
 ghost use Rattle.evaluate.specs.Evaluate.{Evaluates};
-
-// R27: NOT of a bit.
-fn opposite(x: u8) -> u8
-    ensures { λ r. ⌜ r ≡ 1 - x ⌝ }
-{
-    if x == 0 { 1 } else { 0 }
-}
 
 // R27: the value of a constant or cell.
 fn leaf_value(storage: &[u8], i: Row) -> u8

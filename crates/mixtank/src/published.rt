@@ -2,6 +2,7 @@
 use base::kinds::Cell;
 use storage::bits::both;
 use storage::bits::either;
+use storage::bits::opposite;
 use storage::copy_cells;
 use storage::put_cell;
 use storage::reset;
@@ -47,13 +48,6 @@ fn tank_of(s: &[u8]) -> Tank
         eu1: s[11],
         clredge: s[12],
     }
-}
-
-// NOT of a bit.
-fn opposite(x: u8) -> u8
-    ensures { λ r. ⌜ r ≡ not x ⌝ }
-{
-    if x == 0 { 1 } else { 0 }
 }
 
 // The pump, which is an output.

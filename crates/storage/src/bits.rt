@@ -1,6 +1,13 @@
 // Operations on bits that are bytes.
 ghost use mathlib.Core.Path.{_≡_};
-ghost use Prim.Native.Nat.{min, max};
+ghost use Prim.Native.Nat.{_-_, min, max};
+
+// NOT of a bit.
+pub fn opposite(x: u8) -> u8
+    ensures { λ r. ⌜ r ≡ 1 - x ⌝ }
+{
+    if x == 0 { 1 } else { 0 }
+}
 
 // AND of two bits.
 pub fn both(x: u8, y: u8) -> u8

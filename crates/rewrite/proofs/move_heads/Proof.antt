@@ -49,7 +49,9 @@ loop-again : tie.Need-loop-again Inv-loop μ-loop
 loop-again c =
     let c3 = c .before .before .before in
     let c7 = c3 .before .before .before .before in
-    mapping-more _ _ (c7 .pre .count) _ (c3 .loop .inv) (c .before .before .loop-test .taken) (c .number-of .ensures)
+    let a = c7 .args in
+    mapping-more (λ h. getD (a .numbers .now) h 0) (a .y .now) (c7 .pre .count) 0 (c3 .loop .inv) (c .before .before .loop-test .taken)
+    (c .number-of .ensures)
 
 same-length : tie.Need-same-length Inv-loop μ-loop
 same-length c = c .before .loop .inv .size
@@ -57,7 +59,8 @@ same-length c = c .before .loop .inv .size
 returns : tie.Need-returns Inv-loop μ-loop
 returns c =
     let c5 = c .before .before .before .before .before in
-    mapping-all _ _ (c5 .pre .count) (c .before .loop .inv) (c .loop-test .left)
+    let a = c5 .args in
+    mapping-all (λ h. getD (a .numbers .now) h 0) (a .y .now) (c5 .pre .count) (c .before .loop .inv) (c .loop-test .left)
 
 pub move-heads-spec : {M : Type 1} → statement M
 move-heads-spec =
