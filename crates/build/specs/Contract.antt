@@ -2,7 +2,7 @@
 use Prim.Native.Nat.{ℕ, _*_, _≤_}
 use mathlib.Core.Path.{_≡_, refl, ap, sym, _∙_}
 use mathlib.Core.List.{List}
-use lib.ListN.{length}
+use lib.ListN.{length, take}
 use Rattle.rules.specs.Verdict.{Verdict, granted, refused}
 use Rattle.rules.specs.Edition.{old}
 use Rattle.rules.specs.Shape.{cells}
@@ -13,7 +13,7 @@ use Rattle.base.specs.Answers.{shapeOf, refusedBy}
 use Rattle.base.specs.Refusals.{refusalOf, refusal-back}
 use Rattle.base.specs.declared.shape.Shape.{Shape}
 use Rattle.program.specs.Standing.{Standing}
-use Rattle.writer.specs.Contracts.{lengthOf}
+use Rattle.writer.specs.Contracts.{lengthOf, writes-front}
 use Rattle.build.specs.declared.Built.{Built}
 use Rattle.build.specs.declared.Built.the-variants.{Length, Refused}
 
@@ -53,3 +53,9 @@ pub build-only : (file : List ℕ) (rows numbers heads : ℕ) (a b : Built) (bef
     → (a ≡ b) × (t ≡ u)
 build-only file rows numbers heads a b before t u p q =
     (sym (answer-back a) ∙ ap answerOf (p .answers ∙ sym (q .answers)) ∙ answer-back b, p .output ∙ sym (q .output))
+
+-- R59: what a granted call leaves at the front of the output is the file that the rules build, so every law about that file holds of it.
+pub built-front : (file : List ℕ) (rows numbers heads n : ℕ) (before after : List ℕ) → Builds file rows numbers heads (Length n) before after
+    → answer file rows numbers heads before ≡ granted (take n after)
+built-front file rows numbers heads n before after b =
+    writes-front (answer file rows numbers heads before) n before after (record { answer = b .answers; output = b .output })
