@@ -127,11 +127,11 @@ scan-leaves P w s e budget y q =
     cc (a, b)
 
 -- A storage that is granted has as many cells as it should, and is read bit by bit.
-record Read (C : ℕ) (storage : List ℕ) (s : List Bool) : Type 0 where
-  long : length storage ≡ C
-  is : s ≡ map (eqb 1) storage
+pub record Read (C : ℕ) (storage : List ℕ) (s : List Bool) : Type 0 where
+  pub long : length storage ≡ C
+  pub is : s ≡ map (eqb 1) storage
 
-storage-bits : (C : ℕ) (storage : List ℕ) → Grants (Read C storage) (checkStorage C storage)
+pub storage-bits : (C : ℕ) (storage : List ℕ) → Grants (Read C storage) (checkStorage C storage)
 unfolding checkStorage
 storage-bits C storage =
     grants-check (not (eqb (length storage) C)) _ _ _ λ q.
