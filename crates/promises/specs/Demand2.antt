@@ -49,20 +49,24 @@ pub record Stepped (P : Program) (s : List Bool) (steps : ℕ) (after : List ℕ
   pub not-sooner : (j : ℕ) → j < steps → (t : List Bool) → run P j (due 0 s []) ≡ stopped t → ⊥
   pub leaves : after ≡ storageBytes storage
 
+scanned : (file storage : List ℕ) (budget : ℕ) (P : Program) → readProgram old file ≡ granted P → (y : R.Scanned)
+    → scan old file storage budget ≡ granted y → R.scanProgram P budget (map (eqb 1) storage) ≡ granted y
+unfolding scan
+scanned file storage budget P r y e =
+    let (s, b, q) = bind-granted (checkStorage (cells (P .shape)) storage) _ (rw r at e) in
+    rw (grants-of (storage-bits (cells (P .shape)) storage) b .is) at q
+
 pub steps-are : (file storage : List ℕ) (budget steps : ℕ) (after : List ℕ) → Scans file storage budget (M.Stopped steps) after → (P : Program)
     → readProgram old file ≡ granted P → Stepped P (map (eqb 1) storage) steps after
-unfolding scan
 steps-are file storage budget steps after c P r =
     let g = granted-so (scan old file storage budget) (λ y. y .steps) (λ y. y .storage) steps storage after (c .answer) (c .leaves) in
-    let (s, b, q) = bind-granted (checkStorage (cells (P .shape)) storage) _ (rw r at (g .is)) in
-    let bits = grants-of (storage-bits (cells (P .shape)) storage) b .is in
-    let w = scan-whole P budget s (g .what) q in
-    rw (← bits, ← g .told) (record {
+    let w = scan-whole P budget (map (eqb 1) storage) (g .what) (scanned file storage budget P r (g .what) (g .is)) in
+    record {
       storage = g .what .storage;
-      stops = w .stops;
-      not-sooner = w .not-sooner;
+      stops = rw (g .told) at (w .stops);
+      not-sooner = rw (g .told) at (w .not-sooner);
       leaves = g .leaves;
-    })
+    }
 
 -- No refusal is a result.
 never : {k p : ℕ} {bytes : List ℕ} → refused k p ≡ granted bytes → ⊥
