@@ -27,7 +27,7 @@ use Rattle.program.specs.Standing.{programIn, Standing, formed}
 use Rattle.rows.specs.Table.{Stored}
 use Rattle.rows.specs.Making.{Drawn}
 use Rattle.rows.specs.declared.table.Table.{Table}
-use Rattle.writer.specs.Contracts.{Writes}
+use Rattle.writer.specs.Contracts.{Writes, refused-writes}
 use Rattle.writer.specs.Finish.{Finishing, Finishes}
 use Rattle.writer.specs.declared.Written.{Written}
 use Rattle.writer.specs.declared.Written.the-variants as W
@@ -43,9 +43,6 @@ module _ (file : List ℕ) (rows numbers heads : ℕ) (out : List ℕ) where
   -- What follows from what the rules answer.
   refused-builds : (x : Refusal) → v ≡ refusedBy x → Builds file rows numbers heads (Refused x) out out
   refused-builds x e = record { answers = rw e; output = rw e }
-
-  refused-writes : (x : Refusal) → v ≡ refusedBy x → Writes v (W.Refused x) out out
-  refused-writes x e = record { answer = rw e; output = rw e }
 
   -- R51: the file is judged first.
   pub build-unread : (x : Refusal) → refusedBy x ≡ checkOf file → Builds file rows numbers heads (Refused x) out out

@@ -26,7 +26,7 @@ use Rattle.rows.specs.Table.{Holds}
 use Rattle.rows.specs.Making.{Drawn}
 use Rattle.rows.specs.Adding.{stored-length}
 use Rattle.rows.specs.declared.table.Table.{Table}
-use Rattle.writer.specs.Contracts.{Writes}
+use Rattle.writer.specs.Contracts.{Writes, refused-writes}
 use Rattle.writer.specs.Finish.{Finishing, Finishes}
 use Rattle.writer.specs.declared.Written.{Written}
 use Rattle.writer.specs.declared.Written.the-variants as W
@@ -49,10 +49,6 @@ paired first second a b s t p q d e h = record {
 module _ (first second : List ℕ) (rows numbers : ℕ) (out : List ℕ) where
   abbrev v : Verdict (List ℕ)
   v = answer first second rows numbers out
-
-  -- What follows from what the rules answer.
-  refused-writes : (x : Refusal) → v ≡ refusedBy x → Writes v (W.Refused x) out out
-  refused-writes x e = record { answer = rw e; output = rw e }
 
   -- R51: a file that is refused.
   pub first-refused : (x : Refusal) → readSet old first ≡ refusedBy x → Composes first second rows numbers (First x) out out

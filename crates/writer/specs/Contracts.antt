@@ -9,6 +9,7 @@ use Rattle.rules.specs.Verdict.{Verdict, granted, refused, _>>=_}
 use Rattle.rules.specs.Operations.{outputAfter}
 use Rattle.base.specs.Answers.{refusedBy}
 use Rattle.base.specs.Refusals.{refusalOf, refusal-back}
+use Rattle.base.specs.declared.refusal.Refusal.{Refusal}
 use Rattle.writer.specs.declared.Written.{Written}
 use Rattle.writer.specs.declared.Written.the-variants.{Length, Refused}
 
@@ -25,6 +26,10 @@ lengthOf v = v >>= λ bytes. granted (length bytes)
 pub record Writes (v : Verdict (List ℕ)) (r : Written) (before after : List ℕ) : Type 0 where
   pub answer : writtenVerdict r ≡ lengthOf v
   pub output : after ≡ outputAfter v before
+
+-- R52: a refusal leaves the output as it came.
+pub refused-writes : {v : Verdict (List ℕ)} {out : List ℕ} (x : Refusal) → v ≡ refusedBy x → Writes v (Refused x) out out
+refused-writes x e = record { answer = rw e; output = rw e }
 
 -- R46, R52: two results that meet the contract are the same, with the same output after.
 answerOf : Verdict ℕ → Written
