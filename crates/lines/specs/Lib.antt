@@ -1,0 +1,4 @@
+-- Texts in an output, the texts of the rules by their parts, and room for them.
+pub mod Puts
+pub mod Decimal
+pub mod Texts
