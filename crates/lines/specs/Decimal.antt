@@ -50,9 +50,19 @@ length-digits (suc k) j n h = elim (decLt n 10) [
     more k (suc j) n h g rest =
         omega (arith, length-append (digits k (n / 10)) ((48 + n % 10) ∷ []), rest j (n / 10) (omega arith))
 
+-- No more digits than are asked for.
+length-fuel : (k n : ℕ) → length (digits k n) ≤ k
+unfolding digits
+length-fuel zero n = omega arith
+length-fuel (suc k) n = elim (decLt n 10) [
+  | yes p ↦ rw (digits-one k n p) (omega arith)
+  | no p ↦ rw (digits-last k n (omega arith))
+      (omega (arith, length-append (digits k (n / 10)) ((48 + n % 10) ∷ []), length-fuel k (n / 10)))
+]
+
 -- R60: a number of at most 65,535 has at most five digits, and no number has more than 20.
 pub length-word : (n : ℕ) → n ≤ 65535 → length (decimal n) ≤ 5
 length-word n h = length-digits 20 4 n (omega arith)
 
-pub length-decimal : (n : ℕ) → n < 2 ^ 64 → length (decimal n) ≤ 20
-length-decimal n h = length-digits 20 19 n (omega arith)
+pub length-decimal : (n : ℕ) → length (decimal n) ≤ 20
+length-decimal n = length-fuel 20 n

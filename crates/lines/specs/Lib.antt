@@ -2,3 +2,6 @@
 pub mod Puts
 pub mod Decimal
 pub mod Texts
+pub mod Sets
+pub mod Room
+pub mod Answer
