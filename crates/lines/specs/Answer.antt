@@ -68,21 +68,21 @@ built-inside file rows numbers heads n before after b =
       | no p ↦ omega arith
     ]
 
--- R64: what is asked for.
-abbrev pub wanted : List ℕ → List ℕ
-wanted file = answerText (build old file 8192 8192 16384 40957 >>= readSet old)
+-- R62 to R64: what is printed of a program file, in the room that is fixed.
+abbrev pub builtText : List ℕ → List ℕ
+builtText file = answerText (build old file 8192 8192 16384 40957 >>= readSet old)
 
 module _ (file : List ℕ) {rows numbers heads : ℕ} {before after text : List ℕ} {r : ℕ} (er : rows ≡ 8192) (en : numbers ≡ 8192)
     (eh : heads ≡ 16384) (es : length before ≡ 40957) where
   -- R62: what was built prints its set.
   pub built-prints : (n : ℕ) → Builds file rows numbers heads (Length n) before after
-      → Prints (answerText (readSet old (take n after))) text r → Prints (wanted file) text r
+      → Prints (answerText (readSet old (take n after))) text r → Prints (builtText file) text r
   built-prints n b p = rw (rw (er, en, eh, es) at (built-front file rows numbers heads n before after b)) p
 
   -- R63: a refusal is printed.
   pub unbuilt-prints : (x : Refusal) → Builds file rows numbers heads (Refused x) before after → {out : List ℕ} → 230000 ≤ length out
       → Puts (refusalLine (numberOf x) (placeOf x)) 0 out text r
-      → Prints (wanted file) text r
+      → Prints (builtText file) text r
   unfolding refusalLine
   unbuilt-prints x b g p =
       rw (rw (er, en, eh, es) at (refused-so (answer file rows numbers heads before) (b .answers)))
@@ -95,6 +95,6 @@ module _ (file : List ℕ) {rows numbers heads : ℕ} {before after text : List 
       refused-so (refused n q) e = cc
 
 -- R64: of a file that is not cut, this is what `tset` prints.
-pub wanted-tset : (file : List ℕ) → length file ≤ 34312 → wanted file ≡ tset file
+pub built-tset : (file : List ℕ) → length file ≤ 34312 → builtText file ≡ tset file
 unfolding tset
-wanted-tset file h = rw (take-all 34312 file h) refl
+built-tset file h = rw (take-all 34312 file h) refl

@@ -12,12 +12,10 @@ use sets::check_set;
 ghost use mathlib.Core.Path.{_≡_};
 ghost use Prim.Native.Nat.{_≤_};
 ghost use lib.ListN.{length, take};
-ghost use Rattle.rules.specs.Verdict.{_>>=_};
 ghost use Rattle.rules.specs.Edition.{old};
 ghost use Rattle.rules.specs.SetFile.{readSet};
-ghost use Rattle.rules.specs.Operations as O;
 ghost use Rattle.rules.specs.Lines.{answerText};
-ghost use Rattle.lines.specs.Answer.{Prints};
+ghost use Rattle.lines.specs.Answer.{Prints, builtText};
 
 // R62, R63: the text of a set file: the set in it, or its refusal.
 fn print_set(set: &[u8], text: &mut [u8]) -> usize
@@ -42,8 +40,7 @@ pub fn print_built(
 ) -> usize
     requires { ⌜ (length (now rows) ≡ 8192) × (length (now numbers) ≡ 8192) × (length (now heads) ≡ 16384) ⌝ }
     requires { ⌜ (length (now set) ≡ 40957) × (230000 ≤ length (now text)) ⌝ }
-    ensures { λ r.
-        ⌜ take r (now (text .exit)) ≡ answerText (O.build old (now (file .entry)) 8192 8192 16384 40957 >>= readSet old) ⌝ }
+    ensures { λ r. ⌜ take r (now (text .exit)) ≡ builtText (now (file .entry)) ⌝ }
     ensures { λ r. ⌜ r ≤ length (now (text .exit)) ⌝ }
 {
     match build(file, rows, numbers, heads, set) {
