@@ -5,7 +5,7 @@ use mathlib.Core.List.{List}
 use native.Mathlib.Omega.{arith}
 use native.Mathlib.Decide.{decLt}
 use lib.ListN.{length, take, drop}
-use lib.Seq.{take-all, take-append-seam}
+use lib.Seq.{take-all, take-append-seam, length-take-le}
 use Rattle.rules.specs.Verdict.{Verdict, granted, refused, _>>=_}
 use Rattle.rules.specs.Edition.{old}
 use Rattle.rules.specs.SetFile.{readSet}
@@ -18,7 +18,8 @@ use Rattle.sets.specs.Contracts.{setVerdict}
 use Rattle.sets.specs.Spelt.{setIn, Taken, taken-read}
 use Rattle.writer.specs.Contracts.{lengthOf}
 use Rattle.writer.specs.Put.{put-size, put-whole}
-use Rattle.build.specs.Contract.{answer, Builds, built-front}
+use Rattle.build.specs.Contract.{answer, builtVerdict, Builds, built-front}
+use Rattle.build.specs.declared.Built.{Built}
 use Rattle.build.specs.declared.Built.the-variants.{Length, Refused}
 use Rattle.lines.specs.Puts.{Fits, Puts}
 use Rattle.lines.specs.Texts.{refusalLine}
@@ -57,35 +58,45 @@ module _ (file : List ℕ) {out after : List ℕ} {r : ℕ} (g : 230000 ≤ leng
 
 -- ---- a program file
 
--- R59: what was built lies in the output.
-pub built-inside : (file : List ℕ) (rows numbers heads n : ℕ) (before after : List ℕ)
-    → Builds file rows numbers heads (Length n) before after → n ≤ length after
-built-inside file rows numbers heads n before after b =
-    let size = b .answers ∙ ap lengthOf (built-front file rows numbers heads n before after b) in
-    let e : n ≡ length (take n after) = cc size in
-    elim (decLt (length after) n) [
-      | yes p ↦ omega (arith, ap length (take-all n after (omega arith)))
-      | no p ↦ omega arith
-    ]
+module _ (file : List ℕ) {rows numbers heads : ℕ} {before after : List ℕ} (b : Built) (n : ℕ)
+    (B : Builds file rows numbers heads b before after) (e : b ≡ Length n) where
+  -- R59: what was built is what the output begins with.
+  front : answer file rows numbers heads before ≡ granted (take n after)
+  front = built-front file rows numbers heads n before after (rw e at B)
+
+  pub built-inside : n ≤ length after
+  built-inside =
+      let size = sym (ap builtVerdict e) ∙ B .answers ∙ ap lengthOf front in
+      let k : n ≡ length (take n after) = cc size in
+      elim (decLt (length after) n) [
+        | yes p ↦ omega (arith, ap length (take-all n after (omega arith)))
+        | no p ↦ omega arith
+      ]
+
+  pub built-part : n ≡ length (take n after)
+  built-part = sym (length-take-le n after built-inside)
 
 -- R62 to R64: what is printed of a program file, in the room that is fixed.
 abbrev pub builtText : List ℕ → List ℕ
 builtText file = answerText (build old file 8192 8192 16384 40957 >>= readSet old)
 
-module _ (file : List ℕ) {rows numbers heads : ℕ} {before after text : List ℕ} {r : ℕ} (er : rows ≡ 8192) (en : numbers ≡ 8192)
-    (eh : heads ≡ 16384) (es : length before ≡ 40957) where
+module _ (file : List ℕ) {rows numbers heads : ℕ} {before after text : List ℕ} {r : ℕ} (b : Built)
+    (B : Builds file rows numbers heads b before after)
+    (lent : (rows ≡ 8192) × (numbers ≡ 8192) × (heads ≡ 16384)) (out : length before ≡ 40957) where
   -- R62: what was built prints its set.
-  pub built-prints : (n : ℕ) → Builds file rows numbers heads (Length n) before after
-      → Prints (answerText (readSet old (take n after))) text r → Prints (builtText file) text r
-  built-prints n b p = rw (rw (er, en, eh, es) at (built-front file rows numbers heads n before after b)) p
+  pub built-prints : (n : ℕ) → b ≡ Length n → Prints (answerText (readSet old (take n after))) text r → Prints (builtText file) text r
+  built-prints n e p =
+      let (er, en, eh) = lent in
+      rw (rw (er, en, eh, out) at (front file b n B e)) p
 
   -- R63: a refusal is printed.
-  pub unbuilt-prints : (x : Refusal) → Builds file rows numbers heads (Refused x) before after → {out : List ℕ} → 230000 ≤ length out
-      → Puts (refusalLine (numberOf x) (placeOf x)) 0 out text r
-      → Prints (builtText file) text r
+  pub unbuilt-prints : (x : Refusal) → b ≡ Refused x → {whole : List ℕ} → 230000 ≤ length whole
+      → Puts (refusalLine (numberOf x) (placeOf x)) 0 whole text r → Prints (builtText file) text r
   unfolding refusalLine
-  unbuilt-prints x b g p =
-      rw (rw (er, en, eh, es) at (refused-so (answer file rows numbers heads before) (b .answers)))
+  unbuilt-prints x e g p =
+      let (er, en, eh) = lent in
+      let no = refused-so (answer file rows numbers heads before) (sym (ap builtVerdict e) ∙ B .answers) in
+      rw (rw (er, en, eh, out) at no)
       (printed (refusalLine (numberOf x) (placeOf x)) (refusal-fits (numberOf x) (placeOf x) g) p)
     where
       refused-so : (v : Verdict (List ℕ)) → refusedBy x ≡ lengthOf v → v ≡ refusedBy x
