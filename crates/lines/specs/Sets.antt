@@ -105,7 +105,7 @@ module _ (f : ℕ → List ℕ) (l i : ℕ) where
       let m = n - (i + 1) in
       let q : n ≡ i + suc m = omega arith in
       let rest = fits-next (flatMap f (from l i)) (f (l + i) ++ flatMap f (from (suc (l + i)) m))
-          (fits-as (ap (λ j. flatMap f (from l j)) q ∙ lines-split (suc m)) F) p in
+      (fits-as (ap (λ j. flatMap f (from l j)) q ∙ lines-split (suc m)) F) p in
       rw e (fits-here (f (l + i)) (flatMap f (from (suc (l + i)) m)) rest)
 
   -- R62: the lines so far, and the next.

@@ -19,14 +19,7 @@ ghost use Rattle.lines.specs.Puts.{Fits, Puts};
 ghost use Rattle.lines.specs.Texts.{numbersLine, firstLine, refusalLine, cellLine, rowLine, lineEnd};
 
 // R61: a line of a word, a number, a word and a number.
-fn put_numbers(
-    out: &mut [u8],
-    at: usize,
-    first: &[u8],
-    m: usize,
-    second: &[u8],
-    n: usize,
-) -> usize
+fn put_numbers(out: &mut [u8], at: usize, first: &[u8], m: usize, second: &[u8], n: usize) -> usize
     requires { ⌜ Fits (numbersLine (now first) m (now second) n) at (now out) ⌝ }
     ensures { λ r.
         ⌜ Puts (numbersLine (now (first .entry)) m (now (second .entry)) n) at (now (out .entry)) (now (out .exit)) r ⌝ }

@@ -32,9 +32,13 @@ cast-t9 c =
 put-cell-of-requires : tie.Need-put-cell-of-requires Inv-loop μ-loop
 put-cell-of-requires c κs =
     let c3 = c .before .before .before in
-    let c6 = c3 .before .before .before in
-    (c6 .pre .0, (omega (arith, c3 .cells .ensures),
-    lines-fit (cellText _) 0 _ (c6 .pre .1) (c .before .before .loop .inv .0) (omega (arith, c3 .cells .ensures)) (omega arith)))
+    let c6 = c3 .before .before .before in (
+      c6 .pre .0,
+      (
+        omega (arith, c3 .cells .ensures),
+        lines-fit (cellText _) 0 _ (c6 .pre .1) (c .before .before .loop .inv .0) (omega (arith, c3 .cells .ensures)) (omega arith),
+      ),
+    )
 
 add-c : tie.Need-add-c Inv-loop μ-loop
 add-c c = search needs

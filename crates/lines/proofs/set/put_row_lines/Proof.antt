@@ -51,9 +51,13 @@ put-row-of-requires : tie.Need-put-row-of-requires Inv-loop μ-loop
 put-row-of-requires c κs =
     let c3 = c .before .before .before in
     let c4 = c3 .before in
-    let c7 = c4 .before .before .before in
-    (c7 .pre .0, (record { high = omega (arith, c4 .cells .ensures); low = omega (arith, c4 .cells .ensures, c3 .word .ensures) },
-    lines-fit (rowText _) _ _ (c7 .pre .1) (c .before .before .loop .inv .0) (omega (arith, c3 .word .ensures)) (omega (arith, c4 .cells .ensures))))
+    let c7 = c4 .before .before .before in (
+      c7 .pre .0,
+      (
+        record { high = omega (arith, c4 .cells .ensures); low = omega (arith, c4 .cells .ensures, c3 .word .ensures) },
+        lines-fit (rowText _) _ _ (c7 .pre .1) (c .before .before .loop .inv .0) (omega (arith, c3 .word .ensures)) (omega (arith, c4 .cells .ensures)),
+      ),
+    )
 
 add-j : tie.Need-add-j Inv-loop μ-loop
 add-j c = search needs
