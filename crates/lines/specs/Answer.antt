@@ -21,8 +21,8 @@ use Rattle.writer.specs.Put.{put-size, put-whole}
 use Rattle.build.specs.Contract.{answer, builtVerdict, Builds, built-front}
 use Rattle.build.specs.declared.Built.{Built}
 use Rattle.build.specs.declared.Built.the-variants.{Length, Refused}
-use Rattle.lines.specs.Puts.{Fits, Puts}
-use Rattle.lines.specs.Texts.{refusalLine}
+use Rattle.text.specs.Puts.{Fits, Puts}
+use Rattle.text.specs.Texts.{refusalLine}
 use Rattle.lines.specs.Room.{set-fits, refusal-fits}
 
 -- R61: the output begins with a text of r bytes.

@@ -1,7 +1,4 @@
--- Texts in an output, the texts of the rules by their parts, and room for them.
-pub mod Puts
-pub mod Decimal
-pub mod Texts
+-- The text of the set in a file, room for it, and what is printed of a program.
 pub mod Sets
 pub mod Room
 pub mod Answer

@@ -15,9 +15,9 @@ use Rattle.rules.specs.Lines.{decimal, line, setText}
 use Rattle.rules.specs.Rows.{Row, leaf, inv, bin}
 use Rattle.laws.specs.Canonical.{Below}
 use Rattle.sets.specs.Spelt.{rowsIn, setIn, Taken, spelt-length, taken-proper, taken-canonical}
-use Rattle.lines.specs.Decimal.{length-word, length-decimal}
-use Rattle.lines.specs.Puts.{Fits}
-use Rattle.lines.specs.Texts.{firstLine, refusalLine, cellLine, rowLine}
+use Rattle.text.specs.Decimal.{length-word, length-decimal}
+use Rattle.text.specs.Puts.{Fits}
+use Rattle.text.specs.Texts.{firstLine, refusalLine, cellLine, rowLine}
 use Rattle.lines.specs.Sets.{Opened, cellText, rowText, set-parts, few-cells, few-rows, file-size}
 
 -- R61: a line of two words and two numbers.

@@ -15,8 +15,8 @@ use Rattle.laws.specs.Shape.{header-granted, shape-limits}
 use Rattle.sets.specs.Contracts.{Among}
 use Rattle.sets.specs.Spelt.{rowsIn, setIn, Taken, Inside, speltRow, spelt-shape, spelt-length, spelt-head, spelt-row, sized-inside, taken-sized}
 use Rattle.writer.specs.Put.{putAt, flatMap-append, flatMap-one}
-use Rattle.lines.specs.Puts.{Fits, Puts, fits-as, fits-here, fits-next, puts-as, puts-then}
-use Rattle.lines.specs.Texts.{firstLine, cellLine, rowLine}
+use Rattle.text.specs.Puts.{Fits, Puts, fits-as, fits-here, fits-next, puts-as, puts-then}
+use Rattle.text.specs.Texts.{firstLine, cellLine, rowLine}
 
 -- R49: an accepted file, and its shape.
 pub record Opened (file : List ℕ) (sh : Shape) : Type 0 where

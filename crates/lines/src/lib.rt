@@ -1,14 +1,12 @@
 // What `tset` prints: the text of a set or of a refusal (R60 to R64).
-pub mod line;
 pub mod set;
-pub mod text;
 
-use crate::line::put_refusal;
 use crate::set::put_set;
 use build::Built;
 use build::build;
 use program::Checked;
 use sets::check_set;
+use text::line::put_refusal;
 ghost use mathlib.Core.Path.{_≡_};
 ghost use Prim.Native.Nat.{_≤_};
 ghost use lib.ListN.{length, take};

@@ -1,7 +1,4 @@
 // Writes the text of the set in an accepted file (R62). Each function here answers the place after what it wrote.
-use crate::line::put_cell_line;
-use crate::line::put_first_line;
-use crate::line::put_row_line;
 use base::bytes::word;
 use base::kinds::Cell;
 use base::kinds::Row;
@@ -9,6 +6,9 @@ use base::shape::Shape;
 use program::header::shape_at;
 use sets::read::head_in;
 use sets::read::row_in;
+use text::line::put_cell_line;
+use text::line::put_first_line;
+use text::line::put_row_line;
 ghost use Prim.Native.Nat.{_<_};
 ghost use Rattle.rules.specs.Lines.{setText};
 ghost use Rattle.rules.specs.Shape as S;
@@ -16,7 +16,7 @@ ghost use Rattle.rules.specs.SetFile.{leaves};
 ghost use Rattle.base.specs.Answers.{shapeOf};
 ghost use Rattle.sets.specs.Contracts.{Among};
 ghost use Rattle.sets.specs.Spelt.{rowsIn, setIn, Taken};
-ghost use Rattle.lines.specs.Puts.{Fits, Puts};
+ghost use Rattle.text.specs.Puts.{Fits, Puts};
 ghost use Rattle.lines.specs.Sets.{Opened, cellText, cellTexts, rowText, rowTexts};
 
 // R62: the line of a cell.

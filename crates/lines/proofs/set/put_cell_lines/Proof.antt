@@ -7,7 +7,7 @@ use Rattle.rules.specs.Shape.{cells}
 use Rattle.base.specs.Answers.{shapeOf}
 use Rattle.sets.specs.Spelt.{setIn}
 use Rattle.writer.specs.Put.{put-size}
-use Rattle.lines.specs.Puts.{Puts}
+use Rattle.text.specs.Puts.{Puts}
 use Rattle.lines.specs.Sets.{cellText, cellTexts, few-cells, lines-none, lines-fit, lines-more}
 use Rattle.lines.proofs.set.put_cell_lines.Statement.{statement}
 use Rattle.lines.proofs.set.put_cell_lines.Tie as tie

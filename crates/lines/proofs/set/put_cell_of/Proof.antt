@@ -1,5 +1,5 @@
 use native.Mathlib.Omega.{arith}
-use Rattle.lines.specs.Puts.{fits-as, puts-as}
+use Rattle.text.specs.Puts.{fits-as, puts-as}
 use Rattle.lines.specs.Sets.{file-size, cell-line}
 use borrow.Author.Needs.{needs}
 use Rattle.lines.proofs.set.put_cell_of.Statement.{statement}

@@ -8,7 +8,7 @@ use Rattle.rules.specs.SetFile as SetFile
 use Rattle.base.specs.Answers.{shapeOf}
 use Rattle.sets.specs.Spelt.{setIn, rowsIn}
 use Rattle.writer.specs.Put.{put-size}
-use Rattle.lines.specs.Puts.{Puts}
+use Rattle.text.specs.Puts.{Puts}
 use Rattle.lines.specs.Sets.{rowText, rowTexts, few-cells, few-rows, file-size, lines-none, lines-fit, lines-more}
 use Rattle.lines.proofs.set.put_row_lines.Statement.{statement}
 use Rattle.lines.proofs.set.put_row_lines.Tie as tie

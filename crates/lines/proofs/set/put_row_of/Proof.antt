@@ -1,4 +1,4 @@
-use Rattle.lines.specs.Puts.{fits-as, puts-as}
+use Rattle.text.specs.Puts.{fits-as, puts-as}
 use Rattle.lines.specs.Sets.{row-inside, row-line}
 use borrow.Author.Needs.{needs}
 use Rattle.lines.proofs.set.put_row_of.Statement.{statement}

@@ -1,5 +1,5 @@
 use Rattle.sets.specs.Spelt.{taken-header}
-use Rattle.lines.specs.Puts.{fits-as, fits-here, fits-next, puts-as, puts-then}
+use Rattle.text.specs.Puts.{fits-as, fits-here, fits-next, puts-as, puts-then}
 use Rattle.lines.specs.Sets.{set-parts}
 use borrow.Author.Needs.{needs}
 use Rattle.lines.proofs.set.put_set.Statement.{statement}
