@@ -1,8 +1,8 @@
 -- Room for the text: how long each line is at most.
 use Prim.Native.Nat.{ℕ, zero, suc, _+_, _*_, _≤_, _<_}
-use mathlib.Core.Path.{_≡_, refl, sym, ap, _∙_}
-use mathlib.Core.Bool.{Bool, true, false}
-use mathlib.Core.List.{List, [], _∷_, _++_, flatMap}
+use mathlib.Core.Path.{_≡_, refl}
+use mathlib.Core.Bool.{true, false}
+use mathlib.Core.List.{List, _++_, flatMap}
 use native.Mathlib.Omega.{arith}
 use native.Mathlib.Nat.{mul-zero, mul-suc}
 use lib.ListN.{length, length-append}
@@ -11,7 +11,7 @@ use Rattle.rules.specs.Lists.{from}
 use Rattle.rules.specs.Shape.{cells, shapeAt}
 use Rattle.rules.specs.SetFile.{TransferSet, leaves}
 use Rattle.rules.specs.Text.{ascii}
-use Rattle.rules.specs.Lines.{decimal, line, setText}
+use Rattle.rules.specs.Lines.{line, setText}
 use Rattle.rules.specs.Rows.{Row, leaf, inv, bin}
 use Rattle.laws.specs.Canonical.{Below}
 use Rattle.sets.specs.Spelt.{rowsIn, setIn, Taken, spelt-length, taken-proper, taken-canonical}
@@ -20,7 +20,7 @@ use Rattle.text.specs.Puts.{Fits}
 use Rattle.text.specs.Texts.{firstLine, refusalLine, cellLine, rowLine}
 use Rattle.lines.specs.Sets.{Opened, cellText, rowText, set-parts, few-cells, few-rows, file-size}
 
--- R61: a line of two words and two numbers.
+-- R62, R63: the lines of two words and two numbers.
 refusal-length : (n p : ℕ) → length (refusalLine n p) ≤ 60
 unfolding refusalLine line ascii
 refusal-length n p = simp length-append (omega (arith, length-decimal n, length-decimal p))
@@ -101,5 +101,6 @@ module _ (file : List ℕ) (a : Taken file) (h : length file ≤ 40957) where
   pub set-fits : {out : List ℕ} → 230000 ≤ length out → Fits (setText z) 0 out
   set-fits g = record { room = omega (arith, set-length) }
 
+-- R63: a refusal has room there too.
 pub refusal-fits : (n p : ℕ) {out : List ℕ} → 230000 ≤ length out → Fits (refusalLine n p) 0 out
 refusal-fits n p g = record { room = omega (arith, refusal-length n p) }

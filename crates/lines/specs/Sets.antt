@@ -1,7 +1,7 @@
 -- The text of the set in an accepted file: its lines, one after another.
 use Prim.Native.Nat.{ℕ, zero, suc, _+_, _*_, _-_, _≤_, _<_}
 use mathlib.Core.Path.{_≡_, refl, sym, ap, _∙_}
-use mathlib.Core.List.{List, [], _∷_, _++_, flatMap}
+use mathlib.Core.List.{List, _∷_, _++_, flatMap}
 use native.Mathlib.Omega.{arith}
 use native.Mathlib.Nat.{add-zero, zero-add, suc-add}
 use lib.ListN.{getD, length}
@@ -48,6 +48,7 @@ module _ {file : List ℕ} {sh : Shape} (o : Opened file sh) where
   abbrev z : TransferSet
   z = setIn file
 
+  -- R62: the same of the set in the file.
   pub set-parts : (C r : ℕ) → C ≡ cells sh → r ≡ rowsIn file
       → setText z ≡ firstLine C r ++ (cellTexts z (cells sh) ++ rowTexts z (leaves sh) (rowsIn file))
   set-parts C r e q =
@@ -66,6 +67,7 @@ module _ {file : List ℕ} {sh : Shape} (o : Opened file sh) where
   pub few-rows : leaves sh + rowsIn file ≤ 65535
   few-rows = rw (o .is) (o .taken .room)
 
+  -- R41: the length of the file.
   pub file-size : length file ≡ 7 + 2 * cells sh + 5 * rowsIn file
   file-size = rw (o .is) (o .taken .size)
 
@@ -74,7 +76,7 @@ module _ {file : List ℕ} {sh : Shape} (o : Opened file sh) where
   unfolding cellText
   cell-line c h l e = ap (cellLine c) (spelt-head file (shapeAt old file) (rowsIn file) c (rw (o .is) at l) ∙ sym e)
 
-  -- R41: an operation row, where it stands.
+  -- R41: an operation row is in the file, and is read where it stands.
   pub row-inside : (k : ℕ) → Among file sh k → Inside file sh k
   row-inside k a = rw (o .is) (sized-inside file (shapeAt old file) (rowsIn file) k (taken-sized file (o .taken)) (rw (o .is) at (a .low)))
 
@@ -86,6 +88,7 @@ module _ {file : List ℕ} {sh : Shape} (o : Opened file sh) where
 
 -- ---- line after line
 
+-- Numbers in two parts.
 from-split : (l i m : ℕ) → from l (i + m) ≡ from l i ++ from (l + i) m
 unfolding from
 from-split l zero m = rw (zero-add, add-zero) refl
@@ -94,6 +97,7 @@ from-split l (suc i) m =
     rw (suc-add, e) (ap (λ (t : List ℕ). l ∷ t) (from-split (suc l) i m))
 
 module _ (f : ℕ → List ℕ) (l i : ℕ) where
+  -- Lines in two parts.
   lines-split : (m : ℕ) → flatMap f (from l (i + m)) ≡ flatMap f (from l i) ++ flatMap f (from (l + i) m)
   lines-split m = ap (flatMap f) (from-split l i m) ∙ flatMap-append f (from l i) (from (l + i) m)
 
@@ -116,6 +120,7 @@ module _ (f : ℕ → List ℕ) (l i : ℕ) where
       puts-as (lines-split 1 ∙ ap (λ x. flatMap f (from l i) ++ x) (flatMap-one f (l + i) ∙ ap f (sym e)))
       (puts-then (flatMap f (from l i)) (f k) p q)
 
+-- No lines, before the first.
 pub lines-none : (f : ℕ → List ℕ) (l at : ℕ) (out : List ℕ) → Puts (flatMap f (from l 0)) at out out at
 unfolding from flatMap putAt
 lines-none f l at out = record { is = refl; moves = omega arith }

@@ -1,6 +1,6 @@
 -- The texts that are printed, in the parts that the code writes.
 use Prim.Native.Nat.{ℕ}
-use mathlib.Core.Path.{_≡_, refl, sym, ap, _∙_}
+use mathlib.Core.Path.{_≡_, refl}
 use mathlib.Core.Bool.{Bool, true, false, cond}
 use mathlib.Core.List.{List, [], _∷_, _++_}
 use Rattle.rules.specs.Text.{ascii}
@@ -34,24 +34,22 @@ lineEnd (w ∷ ws) = 32 ∷ line w ws
 abbrev pub numbersLine : List ℕ → ℕ → List ℕ → ℕ → List ℕ
 numbersLine v m w n = v ++ (decimal m ++ (w ++ (decimal n ++ (10 ∷ []))))
 
--- ---- each line by its parts
+-- ---- each line by its parts; texts are spelt in ASCII
 
+-- R62: "cells ", a number, " rows ", a number.
 pub first-parts : (C r : ℕ)
     → firstLine C r ≡ numbersLine (99 ∷ 101 ∷ 108 ∷ 108 ∷ 115 ∷ 32 ∷ []) C (32 ∷ 114 ∷ 111 ∷ 119 ∷ 115 ∷ 32 ∷ []) r
 unfolding firstLine line ascii
 first-parts C r = refl
 
-refusal-parts : (n p : ℕ)
-    → refusalLine n p ≡ numbersLine (114 ∷ 101 ∷ 102 ∷ 117 ∷ 115 ∷ 101 ∷ 100 ∷ 32 ∷ []) n (32 ∷ 97 ∷ 116 ∷ 32 ∷ []) p
-unfolding refusalLine line ascii
-refusal-parts n p = refl
-
--- The same of a refusal whose number and place are shown.
+-- R63: "refused ", the number, " at ", the place.
 pub refusal-shown : (x : Refusal) (n p : ℕ) → (n ≡ numberOf x) × (p ≡ placeOf x)
     → refusalLine (numberOf x) (placeOf x)
     ≡ numbersLine (114 ∷ 101 ∷ 102 ∷ 117 ∷ 115 ∷ 101 ∷ 100 ∷ 32 ∷ []) n (32 ∷ 97 ∷ 116 ∷ 32 ∷ []) p
-refusal-shown x n p e = rw (e .0, e .1) (refusal-parts (numberOf x) (placeOf x))
+unfolding refusalLine line ascii
+refusal-shown x n p e = rw (e .0, e .1) refl
 
+-- R62: " = " between a cell and its head.
 abbrev pub equals : List ℕ
 equals = 32 ∷ 61 ∷ 32 ∷ []
 
@@ -59,17 +57,20 @@ pub cell-parts : (c h : ℕ) → cellLine c h ≡ cellName c ++ (equals ++ (rowN
 unfolding cellLine line ascii
 cell-parts c h = refl
 
+-- R61: a line is its first word and what follows it.
 line-end : (w : List ℕ) (ws : List (List ℕ)) → line w ws ≡ w ++ lineEnd ws
 unfolding line lineEnd
 line-end w [] = refl
 line-end w (v ∷ ws) = refl
 
+-- R62: " =" after the name of a row.
 pub row-parts : (k : ℕ) (r : Row) → rowLine k r ≡ rowName k ++ ((32 ∷ 61 ∷ []) ++ lineEnd (operation r))
 unfolding rowLine line ascii
 row-parts k r = rw (line-end (61 ∷ []) (operation r)) refl
 
 -- ---- an operation by its parts
 
+-- R62: " not".
 abbrev pub notWord : List ℕ
 notWord = 32 ∷ 110 ∷ 111 ∷ 116 ∷ []
 
@@ -90,6 +91,7 @@ module _ (r : Row) where
 
 -- ---- words and names by their bytes
 
+-- R62: " and", " or".
 pub and-word : (o : Bool) → o ≡ true → 32 ∷ cond o (ascii "and") (ascii "or") ≡ 32 ∷ 97 ∷ 110 ∷ 100 ∷ []
 unfolding ascii
 and-word o e = rw e refl
@@ -98,6 +100,7 @@ pub or-word : (o : Bool) → o ≡ false → 32 ∷ cond o (ascii "and") (ascii 
 unfolding ascii
 or-word o e = rw e refl
 
+-- R61: "c" and a number, "r" and a number.
 pub cell-name : (c : ℕ) → cellName c ≡ (99 ∷ []) ++ decimal c
 unfolding ascii
 cell-name c = refl

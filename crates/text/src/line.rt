@@ -9,7 +9,7 @@ use base::kinds::Row;
 use base::refusal::Refusal;
 use rows::node::Node;
 ghost use mathlib.Core.Path.{_≡_};
-ghost use mathlib.Core.Bool.{Bool, cond};
+ghost use mathlib.Core.Bool.{cond};
 ghost use mathlib.Core.List.{_∷_};
 ghost use Rattle.rules.specs.Text.{ascii};
 ghost use Rattle.rules.specs.Lines.{rowName, operation};
