@@ -61,7 +61,7 @@ put-five out at k a b e q =
 
 -- ---- tables
 
-flatMap-append : {A : Type 0} (g : A → List ℕ) (xs ys : List A) → flatMap g (xs ++ ys) ≡ flatMap g xs ++ flatMap g ys
+pub flatMap-append : {A : Type 0} (g : A → List ℕ) (xs ys : List A) → flatMap g (xs ++ ys) ≡ flatMap g xs ++ flatMap g ys
 unfolding flatMap
 flatMap-append g [] ys = refl
 flatMap-append g (x ∷ xs) ys = rw (flatMap-append g xs ys, append-assoc)
