@@ -1,9 +1,8 @@
 -- A scan refused by its file, by its storage or by its budget, and a scan that stopped; and the contract admits one result only.
-use Prim.Native.Nat.{ℕ, _-_, _≤_}
+use Prim.Native.Nat.{ℕ, _-_}
 use mathlib.Core.Path.{_≡_, refl, sym, ap, _∙_}
 use mathlib.Core.List.{List, []}
 use native.Mathlib.Omega.{arith}
-use lib.ListN.{length}
 use Rattle.rules.specs.Verdict.{Verdict, granted, refused, _>>=_}
 use Rattle.rules.specs.Edition.{old}
 use Rattle.rules.specs.Shape.{cells, shapeAt}

@@ -1,6 +1,6 @@
 -- Demand 1: every input gets an answer: a result, or a refusal with a number and a place. Room is refused exactly where the rules need more.
-use Prim.Native.Nat.{ℕ, _+_, _*_, _≤_, _<_}
-use mathlib.Core.Path.{_≡_, ap, sym, _∙_}
+use Prim.Native.Nat.{ℕ, _≤_, _<_}
+use mathlib.Core.Path.{_≡_, sym, _∙_}
 use mathlib.Core.Bool.{Bool, true}
 use mathlib.Core.List.{List}
 use native.Mathlib.Omega.{arith}
@@ -15,7 +15,7 @@ use Rattle.rules.specs.Sets.{Heads}
 use Rattle.rules.specs.Build.{transfer}
 use Rattle.rules.specs.SetFile.{TransferSet, leaves, writeSet, readSet}
 use Rattle.rules.specs.Room.{room, headsToBuild, numbersToCompose, valuesToEvaluate}
-use Rattle.rules.specs.Operations.{checkStorage, evaluateSet, setOf, programSet, composed, unchangingSet, writeInto, finish, scan, build, evaluate, sameShape, compose, blamed, writeUnchanging}
+use Rattle.rules.specs.Operations.{checkStorage, evaluateSet, setOf, composed, unchangingSet, writeInto, finish, scan, build, evaluate, sameShape, compose, blamed, writeUnchanging}
 use Rattle.base.specs.Answers.{refusedBy}
 use Rattle.base.specs.declared.refusal.Refusal.{Refusal}
 use Rattle.program.specs.Contracts.{checkedVerdict, checkOf}

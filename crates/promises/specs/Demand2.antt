@@ -1,6 +1,6 @@
 -- Demand 2: the answer is the rules': the table of instructions, the machine's steps, the building rule's set, and one file for a set.
 use Prim.Native.Nat.{ℕ, _<_}
-use mathlib.Core.Path.{_≡_, refl, sym, ap, _∙_}
+use mathlib.Core.Path.{_≡_, sym, ap, _∙_}
 use mathlib.Core.Bool.{Bool, false}
 use mathlib.Core.List.{List, [], map, map-map}
 use native.Mathlib.Omega.{arith}
@@ -17,7 +17,7 @@ use Rattle.rules.specs.Machine as R
 use Rattle.rules.specs.Machine.{perform, due, stopped, run}
 use Rattle.rules.specs.Build.{transfer}
 use Rattle.rules.specs.SetFile.{TransferSet, writeSet, readSet}
-use Rattle.rules.specs.Operations.{storageBytes, programSet, composeSets, unchangingSet, checkStorage, scan}
+use Rattle.rules.specs.Operations.{storageBytes, programSet, checkStorage, scan}
 use Rattle.laws.specs.Verdict.{bind-granted, grants-of}
 use Rattle.laws.specs.Lists.{getD-map-from}
 use Rattle.laws.specs.Canonical.{Proper}
@@ -30,8 +30,6 @@ use Rattle.program.specs.declared.Checked.the-variants as C
 use Rattle.machine.specs.Scan.{Scans}
 use Rattle.machine.specs.declared.Scanned.the-variants as M
 use Rattle.sets.specs.Contracts.{setVerdict}
-use Rattle.compose.specs.Contract.{Composes}
-use Rattle.compose.specs.declared.Composed.the-variants as P
 use Rattle.build.specs.Contract.{Builds}
 use Rattle.build.specs.declared.Built.the-variants as B
 use Rattle.promises.specs.Answers.{Granted, granted-so}

@@ -9,10 +9,9 @@ use Rattle.rules.specs.Verdict.{granted}
 use Rattle.rules.specs.Edition.{old}
 use Rattle.rules.specs.Shape.{cells}
 use Rattle.rules.specs.ProgramFile.{Program, readProgram}
-use Rattle.rules.specs.Machine as R
 use Rattle.rules.specs.Machine.{due, stopped, run}
 use Rattle.rules.specs.SetFile.{TransferSet, readSet}
-use Rattle.rules.specs.Operations.{storageBytes, evaluateSet, setOf, programSet, scan, evaluate, compose, writeUnchanging}
+use Rattle.rules.specs.Operations.{storageBytes, evaluateSet, setOf, programSet, scan, evaluate, writeUnchanging}
 use Rattle.laws.specs.Bytes.{Bytes}
 use Rattle.laws.specs.ProgramFile.{read-wellformed}
 use Rattle.laws.specs.Files.{old-sensible, build-accepted, program-leaves, evaluate-granted, evaluate-is-scan}

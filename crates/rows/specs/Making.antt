@@ -1,5 +1,5 @@
 -- Rows, and heads over them, made in a lent slice by the rules, refused or not.
-use Prim.Native.Nat.{ℕ, _≤_, _<_}
+use Prim.Native.Nat.{ℕ, _≤_}
 use mathlib.Core.Path.{_≡_, refl, ap, sym, _∙_}
 use mathlib.Core.Bool.{Bool, true, false}
 use mathlib.Core.List.{List}
@@ -31,10 +31,6 @@ Makes C rows s f x after = (t : List Row) → Canonical C t → Holds rows s t �
 pub record Drawn (rows : List ℕ) (s : Table) (heads : List ℕ) (h : Heads) : Type 0 where
   pub holds : Holds rows s (h .tab)
   pub same : s .refused ≡ false → heads ≡ h .heads
-
--- A row of the table is one of the rows used, unless the state is refused.
-pub held-row : {rows : List ℕ} {s : Table} {t : List Row} → Holds rows s t → s .refused ≡ false → (a : ℕ) → a < length t → a < s .used
-held-row h f a l = omega (arith, stored-length (h .kept f))
 
 -- An operation over rows of the table can be added.
 pub addable : {rows : List ℕ} {s : Table} {t : List Row} → Holds rows s t → s .refused ≡ false → (r : Row) → Ready (length t) r
