@@ -1,0 +1,2 @@
+-- What stands at a place of a program file.
+pub mod Bodies
