@@ -24,9 +24,9 @@ use Rattle.base.specs.declared.refusal.Refusal.{Refusal}
 use Rattle.base.specs.declared.refusal.Refusal.the-variants.{NoRoom}
 use Rattle.program.specs.Contracts.{checkOf}
 use Rattle.program.specs.Standing.{programIn, Standing, formed}
+use Rattle.table.specs.declared.Table.{Table}
 use Rattle.rows.specs.Table.{Stored}
 use Rattle.rows.specs.Making.{Drawn}
-use Rattle.rows.specs.declared.table.Table.{Table}
 use Rattle.writer.specs.Contracts.{Writes, refused-writes}
 use Rattle.writer.specs.Finish.{Finishing, Finishes}
 use Rattle.writer.specs.declared.Written.{Written}

@@ -30,14 +30,14 @@ use Rattle.base.specs.Answers.{shapeOf}
 use Rattle.base.specs.declared.shape.Shape.{Shape}
 use Rattle.base.specs.declared.kinds.Row as K
 use Rattle.storage.specs.Moves.{Replacing, mapping-more, mapping-all}
+use Rattle.table.specs.declared.Table.{Table}
 use Rattle.rows.specs.Entries.{nodeRow}
 use Rattle.rows.specs.Table.{Stored, Holds, Addable, Adds, Gives}
 use Rattle.rows.specs.Adding.{holds-add, stored-length}
 use Rattle.rows.specs.Making.{add-still, open-before}
 use Rattle.rows.specs.declared.node.Node.{Node}
 use Rattle.rows.specs.declared.node.Node.the-variants.{Leaf, Not, Two}
-use Rattle.rows.specs.declared.table.Table.{Table}
-use Rattle.rows.specs.declared.table.Added.{Added}
+use Rattle.rows.specs.declared.adding.Added.{Added}
 use Rattle.sets.specs.Spelt.{setIn, rowsIn, Inside, sized-inside, taken-sized, speltRow, spelt-row, spelt-shape, spelt-length, spelt-head, spelt-heads, taken-proper, taken-canonical}
 use Rattle.carry.specs.Carrying.{Pair, Known, newNumber, renumbered, carried, Carrying, Moving, newHeads}
 

@@ -14,8 +14,8 @@ use Rattle.rules.specs.Sets.{Carried, carry}
 use Rattle.rules.specs.SetFile.{leaves, headAt}
 use Rattle.base.specs.Answers.{shapeOf}
 use Rattle.base.specs.declared.shape.Shape.{Shape}
+use Rattle.table.specs.declared.Table.{Table}
 use Rattle.rows.specs.Table.{Holds}
-use Rattle.rows.specs.declared.table.Table.{Table}
 use Rattle.sets.specs.Spelt.{setIn, rowsIn, Taken}
 
 -- An accepted file, with its shape as the code has it and the number of its rows; a slice that can hold them.

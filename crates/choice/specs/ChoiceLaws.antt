@@ -18,12 +18,12 @@ use Rattle.laws.specs.Grow.{Grown, ext-length, add-extends, grown-ext}
 use Rattle.laws.specs.After.{over}
 use Rattle.laws.specs.Choice.{each-more, each-count, each-grown, choose-grown, choose-sound, choice-grown, length-zip, zip-at}
 use Rattle.base.specs.declared.kinds.Row as K
+use Rattle.table.specs.declared.Table.{Table}
 use Rattle.rows.specs.Table.{Holds, Addable, Adds, Gives}
 use Rattle.rows.specs.Adding.{holds-add}
 use Rattle.rows.specs.Making.{Drawn, addable, add-still, open-before, over-more, drawn-over}
 use Rattle.rows.specs.declared.node.Node.the-variants.{Not, Two}
-use Rattle.rows.specs.declared.table.Table.{Table}
-use Rattle.rows.specs.declared.table.Added.{Added}
+use Rattle.rows.specs.declared.adding.Added.{Added}
 use Rattle.choice.specs.Choosing.{Among, Choosable, Picks, Choosing, Chooses}
 
 -- ---- four operations

@@ -9,10 +9,10 @@ use Rattle.rules.specs.Rows as R
 use Rattle.rules.specs.Sets.{Heads, choice}
 use Rattle.laws.specs.Canonical.{Canonical}
 use Rattle.laws.specs.After.{Stands, over}
+use Rattle.table.specs.declared.Table.{Table}
 use Rattle.rows.specs.Table.{Holds, Gives}
 use Rattle.rows.specs.Making.{Drawn}
-use Rattle.rows.specs.declared.table.Table.{Table}
-use Rattle.rows.specs.declared.table.Added.{Added}
+use Rattle.rows.specs.declared.adding.Added.{Added}
 
 -- A state stands for the canonical table t, and f, x and y are rows of it.
 pub record Among (C : ℕ) (t : List Row) (rows : List ℕ) (s : Table) (f x y : ℕ) : Type 0 where

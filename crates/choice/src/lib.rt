@@ -1,9 +1,9 @@
 // Choice by a row between two sets over one table (R35).
 use base::kinds::Row;
+use rows::adding::Added;
+use rows::adding::add;
 use rows::node::Node;
-use rows::table::Added;
-use rows::table::Table;
-use rows::table::add;
+use table::Table;
 ghost use mathlib.Core.Path.{_≡_};
 ghost use mathlib.Core.Bool.{false};
 ghost use lib.ListN.{length};

@@ -22,10 +22,10 @@ use Rattle.base.specs.Answers.{shapeOf, refusedBy}
 use Rattle.base.specs.declared.shape.Shape.{Shape}
 use Rattle.base.specs.declared.refusal.Refusal.{Refusal}
 use Rattle.base.specs.declared.refusal.Refusal.the-variants.{NoRoom, ShapesDiffer}
+use Rattle.table.specs.declared.Table.{Table}
 use Rattle.rows.specs.Table.{Holds}
 use Rattle.rows.specs.Making.{Drawn}
 use Rattle.rows.specs.Adding.{stored-length}
-use Rattle.rows.specs.declared.table.Table.{Table}
 use Rattle.writer.specs.Contracts.{Writes, refused-writes}
 use Rattle.writer.specs.Finish.{Finishing, Finishes}
 use Rattle.writer.specs.declared.Written.{Written}

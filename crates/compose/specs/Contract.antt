@@ -9,7 +9,7 @@ use Rattle.rules.specs.Operations.{compose, outputAfter, Blamed, firstFile, sec
 use Rattle.base.specs.Answers.{refusedBy}
 use Rattle.base.specs.Refusals.{refusalOf, refusal-back}
 use Rattle.base.specs.declared.shape.Shape.{Shape}
-use Rattle.rows.specs.declared.table.Table.{Table}
+use Rattle.table.specs.declared.Table.{Table}
 use Rattle.writer.specs.Contracts.{lengthOf}
 use Rattle.sets.specs.Spelt.{setIn, rowsIn}
 use Rattle.compose.specs.declared.Composed.{Composed}

@@ -6,7 +6,7 @@ use carry::carry_rows;
 use carry::copy_rows;
 use carry::move_heads;
 use program::header::shape_at;
-use rows::table::Table;
+use table::Table;
 use writer::Written;
 use writer::write_finished;
 ghost use mathlib.Core.Path.{_≡_};

@@ -19,11 +19,11 @@ use Rattle.base.specs.declared.kinds.Row as K
 use Rattle.base.specs.Answers.{shapeOf}
 use Rattle.program.specs.Codes.{aloneOf, onExpr, onVariable}
 use Rattle.program.specs.Reading.{Reads, Legible}
+use Rattle.table.specs.declared.Table.{Table}
 use Rattle.rows.specs.Table.{Addable, Adds}
 use Rattle.rows.specs.Making.{Open}
 use Rattle.rows.specs.declared.node.Node.the-variants.{Not, Two}
-use Rattle.rows.specs.declared.table.Table.{Table}
-use Rattle.rows.specs.declared.table.Added.{Added}
+use Rattle.rows.specs.declared.adding.Added.{Added}
 use Rattle.spell.specs.declared.expression.Grown.{Grown}
 use Rattle.spell.specs.Made.{Made, made-simple, not-addable, made-not, two-addable, made-two}
 use Rattle.spell.specs.Spelling.{Spelling, Spells}

@@ -20,8 +20,8 @@ use Rattle.base.specs.Answers.{shapeOf}
 use Rattle.program.specs.Codes.{Coded, aloneOf, onExpr, onVariable}
 use Rattle.program.specs.Reading.{Reads, Legible}
 use Rattle.program.specs.Standing.{Standing, programIn, instrAt, deep, most-cells, inside, tells, expression, expression-there, value-codes, with-value, variable-there, variable-codes, with-variable}
-use Rattle.rows.specs.declared.table.Table.{Table}
-use Rattle.rows.specs.declared.table.Added.{Added}
+use Rattle.table.specs.declared.Table.{Table}
+use Rattle.rows.specs.declared.adding.Added.{Added}
 use Rattle.own.specs.declared.heads.Change.{Change}
 use Rattle.spell.specs.Made.{Made}
 use Rattle.own.specs.Changes.{Inside, placeOf, mainOf, movedBy, movedHeads, restBy, changed, Changes}

@@ -15,9 +15,9 @@ use Rattle.base.specs.declared.shape.Shape.{Shape}
 use Rattle.base.specs.Answers.{shapeOf}
 use Rattle.program.specs.Contracts.{farthest}
 use Rattle.program.specs.Standing.{Standing}
+use Rattle.table.specs.declared.Table.{Table}
 use Rattle.rows.specs.Table.{Holds}
 use Rattle.rows.specs.Making.{Open, Drawn}
-use Rattle.rows.specs.declared.table.Table.{Table}
 
 -- R37, R38: the instruction whose own set is built: END's is INIT's; the others that are not plain have none.
 abbrev pub ownOf : Instr → Plain

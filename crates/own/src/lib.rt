@@ -12,7 +12,7 @@ use crate::mains::row_variable;
 use base::kinds::Cell;
 use base::kinds::Instr;
 use base::shape::Shape;
-use rows::table::Table;
+use table::Table;
 ghost use Rattle.base.specs.Answers.{shapeOf};
 ghost use Rattle.program.specs.Standing.{instrAt};
 ghost use Rattle.own.specs.Owning.{ownOf, Owning, Owns};

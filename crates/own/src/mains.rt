@@ -2,11 +2,11 @@
 use base::kinds::Cell;
 use base::kinds::Row;
 use base::shape::Shape;
+use rows::adding::Added;
+use rows::adding::add;
 use rows::node::Node;
-use rows::table::Added;
-use rows::table::Table;
-use rows::table::add;
 use spell::expression::add_expression;
+use table::Table;
 ghost use Prim.Native.Nat.{_+_, _≤_, _<_};
 ghost use Rattle.base.specs.Answers.{shapeOf};
 ghost use Rattle.rules.specs.Expr.{Exp, Read};

@@ -16,14 +16,14 @@ use Rattle.laws.specs.Rule.{canonical-below}
 use Rattle.laws.specs.Grow.{ext-length, ext-row, grown-ext}
 use Rattle.laws.specs.After.{Stage, leaf-own, carryRow-grown, carry-grown, carry-size, snoc-old, snoc-last, stages}
 use Rattle.base.specs.declared.kinds.Row as K
+use Rattle.table.specs.declared.Table.{Table}
 use Rattle.rows.specs.Entries.{nodeRow, rowOfEntry}
 use Rattle.rows.specs.Table.{Stored, Holds, Addable, Adds, Gives}
 use Rattle.rows.specs.Adding.{stored-length, stored-row}
 use Rattle.rows.specs.Making.{over-more}
 use Rattle.rows.specs.declared.node.Node.{Node}
 use Rattle.rows.specs.declared.node.Node.the-variants.{Leaf, Not, Two}
-use Rattle.rows.specs.declared.table.Table.{Table}
-use Rattle.rows.specs.declared.table.Added as A
+use Rattle.rows.specs.declared.adding.Added as A
 use Rattle.rewrite.specs.Carrying.{Both, carried, Carrying, Fits, Puts, Turn, Turns, Start, Carries}
 
 -- ---- one row

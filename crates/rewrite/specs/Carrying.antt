@@ -9,9 +9,9 @@ use Rattle.rules.specs.Rows.{Row, leaf, inv, bin, add}
 use Rattle.rules.specs.Sets.{Carried, reaches, carryOne, carry}
 use Rattle.laws.specs.Canonical.{Canonical}
 use Rattle.laws.specs.After.{Stands, over}
+use Rattle.table.specs.declared.Table.{Table}
 use Rattle.rows.specs.Table.{Stored, Holds, Addable, Gives}
-use Rattle.rows.specs.declared.table.Table.{Table}
-use Rattle.rows.specs.declared.table.Added.{Added}
+use Rattle.rows.specs.declared.adding.Added.{Added}
 
 -- R31: two sets of so many cells over one table; the first has the heads x.
 pub record Both (x : List ℕ) : Type 0 where

@@ -9,8 +9,8 @@ use Rattle.rules.specs.Room.{room}
 use Rattle.rules.specs.Shape.{Shape, cells, checkShape}
 use Rattle.rules.specs.Sets.{Heads, after}
 use Rattle.laws.specs.After.{Stands, over}
+use Rattle.table.specs.declared.Table.{Table}
 use Rattle.rows.specs.Making.{Drawn}
-use Rattle.rows.specs.declared.table.Table.{Table}
 
 -- Heads X of the rules that `made` stands for, and y over the same table; a number for each row that may be used.
 pub record Following (sh : Shape) (y rows : List ℕ) (s : Table) (numbers : ℕ) (made : List ℕ) : Type 0 where

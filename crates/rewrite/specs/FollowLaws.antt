@@ -12,10 +12,10 @@ use Rattle.laws.specs.Verdict.{no-false}
 use Rattle.laws.specs.Lists.{map-ext}
 use Rattle.laws.specs.Grow.{ext-length, grown-ext}
 use Rattle.laws.specs.After.{Stands, over, after-grown}
+use Rattle.table.specs.declared.Table.{Table}
 use Rattle.rows.specs.Entries.{tableIn}
 use Rattle.rows.specs.Making.{Drawn, drawn-over}
 use Rattle.rows.specs.Adding.{stored-length}
-use Rattle.rows.specs.declared.table.Table.{Table}
 use Rattle.reach.specs.Tabled.{Tabled}
 use Rattle.reach.specs.Marks.{Reached}
 use Rattle.rewrite.specs.Carrying.{Both, Carrying, Start, Carries, Moving}

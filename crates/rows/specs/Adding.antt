@@ -19,12 +19,12 @@ use Rattle.laws.specs.Grow.{ext-length, add-extends}
 use Rattle.laws.specs.Verdict.{no-false}
 use Rattle.laws.specs.Search.{lastOf, last-low, find-from, none-to-last}
 use Rattle.base.specs.declared.kinds.Row as K
+use Rattle.table.specs.declared.Table.{Table}
 use Rattle.rows.specs.declared.node.Node.{Node}
 use Rattle.rows.specs.declared.node.Node.the-variants.{Not, Two}
 use Rattle.rows.specs.declared.rule.Plan as P
 use Rattle.rows.specs.declared.rule.Plan.the-variants.{Have, Make}
-use Rattle.rows.specs.declared.table.Table.{Table}
-use Rattle.rows.specs.declared.table.Added.{Added}
+use Rattle.rows.specs.declared.adding.Added.{Added}
 use Rattle.rows.specs.Entries.{nodeRow, planRow, entry, rowOfEntry, tableIn, Narrow, entry-same, entry-back}
 use Rattle.rows.specs.Table.{Stored, Holds, Gives, Addable, Settles, Adds}
 

@@ -11,11 +11,11 @@ use Rattle.rules.specs.Sets.{Heads}
 use Rattle.laws.specs.Verdict.{no-false}
 use Rattle.laws.specs.Canonical.{Canonical}
 use Rattle.laws.specs.Rule.{Ready}
+use Rattle.table.specs.declared.Table.{Table}
 use Rattle.rows.specs.Table.{Holds, Gives, Addable, Adds}
 use Rattle.rows.specs.Adding.{stored-length}
 use Rattle.rows.specs.declared.node.Node.{Node}
-use Rattle.rows.specs.declared.table.Table.{Table}
-use Rattle.rows.specs.declared.table.Added.{Added}
+use Rattle.rows.specs.declared.adding.Added.{Added}
 
 -- A state stands for some canonical table of C cells.
 pub record Open (C : ℕ) (rows : List ℕ) (s : Table) : Type 0 where

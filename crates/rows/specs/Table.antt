@@ -9,10 +9,10 @@ use Rattle.rules.specs.Rows.{Row, make, plan, settle, add}
 use Rattle.rules.specs.Rows as R
 use Rattle.laws.specs.Canonical.{Canonical}
 use Rattle.laws.specs.Rule.{Ready}
+use Rattle.table.specs.declared.Table.{Table}
 use Rattle.rows.specs.Entries.{nodeRow, entry, rowOfEntry, tableIn}
 use Rattle.rows.specs.declared.node.Node.{Node}
-use Rattle.rows.specs.declared.table.Table.{Table}
-use Rattle.rows.specs.declared.table.Added.{Added}
+use Rattle.rows.specs.declared.adding.Added.{Added}
 
 -- The first `used` numbers of a slice are t's rows, each in its own number.
 pub record Stored (rows : List ℕ) (used : ℕ) (t : List Row) : Type 0 where

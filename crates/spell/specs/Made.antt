@@ -14,12 +14,12 @@ use Rattle.laws.specs.Grow.{ext-length, grown-ext}
 use Rattle.laws.specs.Build.{addExp-grown, addExp-sound}
 use Rattle.laws.specs.Own.{Simple, simpleRow, simple-added}
 use Rattle.base.specs.declared.kinds.Row as K
+use Rattle.table.specs.declared.Table.{Table}
 use Rattle.rows.specs.Table.{Holds, Addable, Adds}
 use Rattle.rows.specs.Adding.{holds-add}
 use Rattle.rows.specs.Making.{Open, Makes, addable, open-smaller}
 use Rattle.rows.specs.declared.node.Node.the-variants.{Not, Two}
-use Rattle.rows.specs.declared.table.Table.{Table}
-use Rattle.rows.specs.declared.table.Added.{Added}
+use Rattle.rows.specs.declared.adding.Added.{Added}
 
 -- R37: what is left, and the row that is answered, are what adding the expression x makes of any table that the state stood for.
 pub record Made (C : ℕ) (rows : List ℕ) (s : Table) (x : Exp) (a : Added) (after : List ℕ) : Type 0 where

@@ -17,10 +17,10 @@ use Rattle.laws.specs.ProgramFile.{expr-over}
 use Rattle.laws.specs.Build.{over-more}
 use Rattle.base.specs.declared.kinds.Row as K
 use Rattle.program.specs.Reading.{Reads, Parts, variable-parts, constant-parts, not-parts, two-parts, read-operand, read-second}
+use Rattle.table.specs.declared.Table.{Table}
 use Rattle.rows.specs.Table.{Addable, Adds}
 use Rattle.rows.specs.declared.node.Node.the-variants.{Not, Two}
-use Rattle.rows.specs.declared.table.Table.{Table}
-use Rattle.rows.specs.declared.table.Added.{Added}
+use Rattle.rows.specs.declared.adding.Added.{Added}
 use Rattle.spell.specs.declared.expression.Grown.{Grown}
 use Rattle.spell.specs.Made.{made-simple, open-after, not-addable, made-not, two-addable, made-two}
 use Rattle.spell.specs.Spelling.{leafRow, Spelling, Spells}

@@ -6,8 +6,8 @@ use mathlib.Core.List.{List}
 use lib.Dec.{ltb}
 use Rattle.rules.specs.Expr.{Exp, Read}
 use Rattle.program.specs.Reading.{Reads, Legible}
+use Rattle.table.specs.declared.Table.{Table}
 use Rattle.rows.specs.Making.{Open}
-use Rattle.rows.specs.declared.table.Table.{Table}
 use Rattle.spell.specs.declared.expression.Grown.{Grown}
 use Rattle.spell.specs.Made.{Made}
 

@@ -1,10 +1,10 @@
 // The rows of an expression, added to a table by the rule (R11, R37).
 use base::kinds::Cell;
 use base::kinds::Row;
+use rows::adding::Added;
+use rows::adding::add;
 use rows::node::Node;
-use rows::table::Added;
-use rows::table::Table;
-use rows::table::add;
+use table::Table;
 ghost use mathlib.Core.Path.{_≡_};
 ghost use Prim.Native.Nat.{_<_};
 ghost use Rattle.spell.specs.Spelling.{leafRow, Spelling, Spells};

@@ -13,7 +13,7 @@ use Rattle.laws.specs.Shape.{shape-limits}
 use Rattle.laws.specs.Grow.{grown-ext}
 use Rattle.laws.specs.After.{Stands, over, stands-ext, after-acts, after-grown}
 use Rattle.program.specs.Codes.{onLabel}
-use Rattle.rows.specs.declared.table.Table.{Table}
+use Rattle.table.specs.declared.Table.{Table}
 use Rattle.choice.specs.Choosing.{Choosing, Chooses}
 use Rattle.rewrite.specs.Follow.{Follows}
 use Rattle.turns.specs.Turning.{jumped, Jumping, Jumps}

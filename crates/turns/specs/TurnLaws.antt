@@ -29,8 +29,8 @@ use Rattle.base.specs.declared.kinds.Instr as K
 use Rattle.program.specs.Contracts.{farthest}
 use Rattle.program.specs.Codes.{aloneOf, onVariable, onLabel}
 use Rattle.program.specs.Standing.{programIn, instrAt, Standing, standing-at, formed, deep, tells, with-value, with-variable, goes, later}
+use Rattle.table.specs.declared.Table.{Table}
 use Rattle.rows.specs.Making.{Drawn, over-more}
-use Rattle.rows.specs.declared.table.Table.{Table}
 use Rattle.own.specs.Owning.{ownOf, Owning, Owns}
 use Rattle.rewrite.specs.Follow.{Following, Follows}
 use Rattle.turns.specs.Turning.{built, slot, Building, turnAt, Turning, Jumping, Jumps}

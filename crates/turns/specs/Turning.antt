@@ -15,9 +15,9 @@ use Rattle.laws.specs.After.{Stands, over}
 use Rattle.base.specs.Answers.{shapeOf}
 use Rattle.base.specs.declared.shape.Shape.{Shape}
 use Rattle.program.specs.Standing.{programIn, instrAt, Standing}
+use Rattle.table.specs.declared.Table.{Table}
 use Rattle.rows.specs.Table.{Holds}
 use Rattle.rows.specs.Making.{Drawn}
-use Rattle.rows.specs.declared.table.Table.{Table}
 use Rattle.rewrite.specs.Follow.{Following}
 
 -- R38: what the rules have built when T(n-1) down to T(i) are.

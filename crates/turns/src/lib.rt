@@ -7,7 +7,7 @@ use choice::choose_heads;
 use own::own_heads;
 use program::body::body_at;
 use rewrite::follow;
-use rows::table::Table;
+use table::Table;
 ghost use mathlib.Core.Path.{_≡_};
 ghost use Prim.Native.Nat.{_+_, _*_, _<_, _≤_};
 ghost use lib.ListN.{length, getD};

@@ -14,10 +14,10 @@ use Rattle.rules.specs.Room.{room}
 use Rattle.rules.specs.Operations.{setOf, writeInto, finish}
 use Rattle.laws.specs.After.{Stands, over}
 use Rattle.base.specs.declared.refusal.Refusal.the-variants.{NoRoom}
+use Rattle.table.specs.declared.Table.{Table}
 use Rattle.rows.specs.Entries.{tableIn}
 use Rattle.rows.specs.Adding.{stored-length}
 use Rattle.rows.specs.Making.{Drawn}
-use Rattle.rows.specs.declared.table.Table.{Table}
 use Rattle.reach.specs.Tabled.{Tabled}
 use Rattle.writer.specs.declared.Written.{Written}
 use Rattle.writer.specs.declared.Written.the-variants.{Refused}

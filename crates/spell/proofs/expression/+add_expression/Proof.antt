@@ -12,7 +12,7 @@ use Rattle.spell.proofs.expression.add_expression.Reads as add-expressi
 use Rattle.spell.proofs.expression.add_expression.Kinds as add-expression-kinds
 use Rattle.spell.proofs.expression.+add_expression.Lts-add_expression as add-expression-lts
 use Rattle.spell.proofs.expression.leaf_row.Reads as leaf-row-reads
-use Rattle.rows.proofs.table.add.Reads as add-reads
+use Rattle.rows.proofs.adding.add.Reads as add-reads
 use Rattle.spell.proofs.expression.+add_expression.{statement}
 use Rattle.spell.proofs.expression.+add_expression.Tie.{close}
 

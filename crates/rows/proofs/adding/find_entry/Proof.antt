@@ -6,8 +6,8 @@ use lib.Dec.{eqb}
 use borrow.Author.Needs.{needs}
 use borrow.Author.Tests.{eq-eqb, ne-eqb}
 use Rattle.laws.specs.Lists.{Searching, searching-start, searching-more, searching-hit, searching-end}
-use Rattle.rows.proofs.table.find_entry.Statement.{statement}
-use Rattle.rows.proofs.table.find_entry.Tie as tie
+use Rattle.rows.proofs.adding.find_entry.Statement.{statement}
+use Rattle.rows.proofs.adding.find_entry.Tie as tie
 
 abbrev Inv-loop : tie.InvT-loop
 Inv-loop rows start used entry i₀ i = Searching (λ k. eqb (getD rows k 0) entry) start i × (i ≤ used)

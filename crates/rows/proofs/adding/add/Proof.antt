@@ -3,8 +3,8 @@ use mathlib.Core.Path.{refl}
 use Rattle.rows.specs.Entries.{nodeRow}
 use Rattle.rows.specs.Adding.{ready-slice, add-idle, add-have, add-make, make-addable}
 use borrow.Author.Needs.{needs}
-use Rattle.rows.proofs.table.add.Statement.{statement}
-use Rattle.rows.proofs.table.add.Tie as tie
+use Rattle.rows.proofs.adding.add.Statement.{statement}
+use Rattle.rows.proofs.adding.add.Tie as tie
 
 returns : tie.Need-returns
 returns c = add-idle _ _ (c .before .before .args .node) (c .if1 .taken) _ refl

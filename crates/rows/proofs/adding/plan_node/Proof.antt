@@ -1,8 +1,8 @@
 use denote.Ref.{now}
 use Rattle.rows.specs.Adding.{below-not, plan-of-not, plan-of-two}
 use borrow.Author.Needs.{needs}
-use Rattle.rows.proofs.table.plan_node.Statement.{statement}
-use Rattle.rows.proofs.table.plan_node.Tie as tie
+use Rattle.rows.proofs.adding.plan_node.Statement.{statement}
+use Rattle.rows.proofs.adding.plan_node.Tie as tie
 
 enum-known-node : tie.Need-enum-known-node
 enum-known-node c = search needs

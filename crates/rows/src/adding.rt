@@ -7,6 +7,7 @@ use crate::rule::Plan;
 use crate::rule::plan_not;
 use crate::rule::plan_two;
 use base::kinds::Row;
+use table::Table;
 ghost use mathlib.Core.Path.{_≡_};
 ghost use mathlib.Core.Bool.{false};
 ghost use mathlib.Core.List.{map};
@@ -14,29 +15,15 @@ ghost use Prim.Native.Nat.{_-_, _≤_, _<_};
 ghost use lib.ListN.{length, getD};
 ghost use lib.Dec.{eqb};
 ghost use Rattle.rules.specs.Lists.{seek};
-ghost use Rattle.rules.specs.Room.{room};
 ghost use Rattle.rules.specs.Rows.{plan};
 ghost use Rattle.laws.specs.Canonical.{Below};
 ghost use Rattle.rows.specs.Entries.{nodeRow, planRow, rowOfEntry};
 ghost use Rattle.rows.specs.Table.{Addable, Settles, Adds};
 
-// How many rows are used, and whether an append found none left.
-pub struct Table {
-    pub used: usize,
-    pub refused: bool,
-}
-
 // The row that was asked for, and the table after. The row means nothing if the table is refused.
 pub struct Added {
     pub row: Row,
     pub table: Table,
-}
-
-// R53: how many of so many rows may be used.
-pub fn room_in(rows: usize) -> usize
-    ensures { λ r. ⌜ r ≡ room rows ⌝ }
-{
-    if rows < 65535 { rows } else { 65535 }
 }
 
 // R28, R29: the plan for an operation over rows that stand.

@@ -4,8 +4,8 @@ use Rattle.laws.specs.Search.{last-low}
 use Rattle.rows.specs.Entries.{nodeRow}
 use Rattle.rows.specs.Adding.{settle-stood, settle-full, settle-append}
 use borrow.Author.Needs.{needs}
-use Rattle.rows.proofs.table.settle.Statement.{statement}
-use Rattle.rows.proofs.table.settle.Tie as tie
+use Rattle.rows.proofs.adding.settle.Statement.{statement}
+use Rattle.rows.proofs.adding.settle.Tie as tie
 
 entry-of-requires : tie.Need-entry-of-requires
 entry-of-requires c κs = search needs
