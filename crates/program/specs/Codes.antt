@@ -1,4 +1,4 @@
--- What the code at an instruction's place tells of the instruction.
+-- What an instruction's body tells of the instruction.
 use Prim.Native.Nat.{ℕ, suc, _+_, _-_, _≤_, _<_}
 use mathlib.Core.Path.{_≡_, refl, ap, _∙_}
 use mathlib.Core.Bool.{Bool, true, false}
@@ -7,15 +7,18 @@ use native.Mathlib.Omega.{arith}
 use lib.ListN.{length, getD}
 use lib.Dec.{eqb}
 use borrow.Author.Tests.{eqb-true}
-use Rattle.rules.specs.Verdict.{granted}
 use Rattle.rules.specs.Lists.{numberAt, orElse}
-use Rattle.rules.specs.Edition.{Edition}
+use Rattle.rules.specs.Edition.{old}
 use Rattle.rules.specs.Shape.{Shape, vars}
-use Rattle.rules.specs.Expr.{Exp, Read, readExpr}
+use Rattle.rules.specs.Expr.{Exp, Read}
 use Rattle.rules.specs.Instr.{Plain, INIT, NOT, TAND, TOR, PUSH, POP, DROP, DUP, FSWP, ESWP, LOAD, AND, OR, EPUSH, STORE, SET, RES, REDGE, FEDGE}
 use Rattle.rules.specs.Instr.{Instr, plain, JP, JPC, JS, JSC, END}
 use Rattle.rules.specs.ProgramFile.{Form, alone, withExpr, withVar, withLabel, unknown, codes, formOf}
 use Rattle.laws.specs.Decode.{Says}
+use Rattle.reader.specs.Bodies.{taken, bodyIn}
+use Rattle.reader.specs.declared.body.Body.{Body}
+use Rattle.reader.specs.declared.body.Body.the-variants.{Alone, Value, Variable, Label}
+use Rattle.program.specs.Reading.{Reads}
 
 -- R10: the instruction of a code below 10.
 abbrev pub aloneOf : ℕ → Plain
@@ -34,7 +37,7 @@ abbrev pub onLabel : ℕ → ℕ → Instr
 onLabel c l = getD (JP l ∷ JPC l ∷ JS l ∷ JSC l ∷ []) (c - 48) END
 
 -- R10: where the codes of a form lie, and which instruction each is.
-abbrev Kinded : ℕ → Form → Type 0
+abbrev pub Kinded : ℕ → Form → Type 0
 Kinded c (alone x) = (c ≤ 10) × (c < 10 → x ≡ plain (aloneOf c)) × (c ≡ 10 → x ≡ END)
 Kinded c (withExpr g) = (16 ≤ c) × (c < 20) × ((x : Exp) → g x ≡ onExpr c x)
 Kinded c (withVar g) = (32 ≤ c) × (c < 37) × ((b : ℕ) → g b ≡ onVariable c b)
@@ -129,58 +132,28 @@ all-kinded =
       ),
     )
 
-module _ (e : Edition) (file : List ℕ) (sh : Shape) (n i p : ℕ) (x : Instr) where
-  alone-by : (c : ℕ) (m : Form) → Kinded c m → Says e file sh n i p x m → c < 16
-      → (c ≤ 10) × (c < 10 → x ≡ plain (aloneOf c)) × (c ≡ 10 → x ≡ END)
-  alone-by c (alone y) (a, b, d) q h = (a, λ k. q ∙ b k, λ k. q ∙ d k)
-  alone-by c (withExpr g) k q h = absurd (omega (arith, k .0))
-  alone-by c (withVar g) k q h = absurd (omega (arith, k .0))
-  alone-by c (withLabel g) k q h = absurd (omega (arith, k .0))
-  alone-by c unknown k q h = absurd q
+pub kinded : (c : ℕ) → Kinded c (formOf codes c)
+kinded c = form-kinded codes all-kinded c
 
-  expr-by : (c : ℕ) (m : Form) → Kinded c m → Says e file sh n i p x m → 10 < c → c < 32
-      → (16 ≤ c) × (c < 20) × (y : Read Exp)
-      × (readExpr (e .mostExpr) file (vars sh) (suc p + e .mostExpr) (suc p) ≡ granted y) × (x ≡ plain (onExpr c (y .got)))
-  expr-by c (alone y) k q h l = absurd (omega (arith, k .0))
-  expr-by c (withExpr g) (a, b, d) (y, u, v) h l = (a, b, y, u, v ∙ ap plain (d (y .got)))
-  expr-by c (withVar g) k q h l = absurd (omega (arith, k .0))
-  expr-by c (withLabel g) k q h l = absurd (omega (arith, k .0))
-  expr-by c unknown k q h l = absurd q
+-- R10 to R13: what its body tells of x, instruction i of n, where there are v variables.
+abbrev pub Tells : List ℕ → ℕ → ℕ → ℕ → Instr → Body → Type 0
+Tells file v n i x (Alone c) = (c ≤ 10) × (c < 10 → x ≡ plain (aloneOf c)) × (c ≡ 10 → x ≡ END)
+Tells file v n i x (Value c p) =
+    (16 ≤ c) × (c < 20) × (p ≤ length file) × (y : Read Exp) × Reads file v (p + 64) p y × (x ≡ plain (onExpr c (y .got)))
+Tells file v n i x (Variable c b) = (32 ≤ c) × (c < 37) × (b .0 < v) × (x ≡ plain (onVariable c (b .0)))
+Tells file v n i x (Label c l) = (48 ≤ c) × (c < 52) × (i < l .0) × (l .0 < n) × (x ≡ onLabel c (l .0))
 
-  var-by : (c : ℕ) (m : Form) → Kinded c m → Says e file sh n i p x m → 32 ≤ c → c < 48
-      → (c < 37) × (suc p < length file) × (getD file (suc p) 0 < vars sh) × (x ≡ plain (onVariable c (getD file (suc p) 0)))
-  var-by c (alone y) k q h l = absurd (omega (arith, k .0))
-  var-by c (withExpr g) k q h l = absurd (omega (arith, k .1))
-  var-by c (withVar g) (a, b, d) (u, v, w) h l = (b, u, v, w ∙ ap plain (d (getD file (suc p) 0)))
-  var-by c (withLabel g) k q h l = absurd (omega (arith, k .0))
-  var-by c unknown k q h l = absurd q
+pub body-tells : (file : List ℕ) (sh : Shape) (n i p : ℕ) (x : Instr) → p < length file
+    → Says old file sh n i p x (formOf codes (getD file p 0)) → Tells file (vars sh) n i x (bodyIn file p)
+unfolding bodyIn
+body-tells file sh n i p x l s = go (formOf codes (getD file p 0)) (kinded (getD file p 0)) s
+  where
+    one : p + 1 ≡ suc p
+    one = omega arith
 
-  label-by : (c : ℕ) (m : Form) → Kinded c m → Says e file sh n i p x m → 48 ≤ c
-      → (c < 52) × (suc p + 2 ≤ length file) × (i < numberAt 2 file (suc p)) × (numberAt 2 file (suc p) < n)
-      × (x ≡ onLabel c (numberAt 2 file (suc p)))
-  label-by c (alone y) k q h = absurd (omega (arith, k .0))
-  label-by c (withExpr g) k q h = absurd (omega (arith, k .1))
-  label-by c (withVar g) k q h = absurd (omega (arith, k .1))
-  label-by c (withLabel g) (a, b, d) (t, u, v, w) h = (b, t, u, v, w ∙ d (numberAt 2 file (suc p)))
-  label-by c unknown k q h = absurd q
-
--- R10: what the code at an instruction's place tells of the instruction x there.
-pub record Coded (e : Edition) (file : List ℕ) (sh : Shape) (n i p c : ℕ) (x : Instr) : Type 0 where
-  pub lone : c < 16 → (c ≤ 10) × (c < 10 → x ≡ plain (aloneOf c)) × (c ≡ 10 → x ≡ END)
-  pub expr : 10 < c → c < 32 → (16 ≤ c) × (c < 20) × (y : Read Exp)
-      × (readExpr (e .mostExpr) file (vars sh) (suc p + e .mostExpr) (suc p) ≡ granted y) × (x ≡ plain (onExpr c (y .got)))
-  pub var : 32 ≤ c → c < 48 → (c < 37) × (suc p < length file) × (getD file (suc p) 0 < vars sh)
-      × (x ≡ plain (onVariable c (getD file (suc p) 0)))
-  pub label : 48 ≤ c → (c < 52) × (suc p + 2 ≤ length file) × (i < numberAt 2 file (suc p)) × (numberAt 2 file (suc p) < n)
-      × (x ≡ onLabel c (numberAt 2 file (suc p)))
-
-pub coded : (e : Edition) (file : List ℕ) (sh : Shape) (n i p c : ℕ) (x : Instr) → Says e file sh n i p x (formOf codes c)
-    → Coded e file sh n i p c x
-coded e file sh n i p c x q =
-    let k = form-kinded codes all-kinded c in
-    record {
-      lone = alone-by e file sh n i p x c (formOf codes c) k q;
-      expr = expr-by e file sh n i p x c (formOf codes c) k q;
-      var = var-by e file sh n i p x c (formOf codes c) k q;
-      label = label-by e file sh n i p x c (formOf codes c) k q;
-    }
+    go : (m : Form) → Kinded (getD file p 0) m → Says old file sh n i p x m → Tells file (vars sh) n i x (taken m file p)
+    go (alone y) (a, b, d) q = (a, λ k. q ∙ b k, λ k. q ∙ d k)
+    go (withExpr g) (a, b, d) (y, u, v) = (a, b, omega arith, y, (record { fuel = 64; is = rw one u }), v ∙ ap plain (d (y .got)))
+    go (withVar g) (a, b, d) (u, v, w) = (a, b, rw one v, w ∙ rw one (ap plain (d (getD file (suc p) 0))))
+    go (withLabel g) (a, b, d) (t, u, v, w) = (a, b, rw one u, rw one v, w ∙ rw one (d (numberAt 2 file (suc p))))
+    go unknown k q = absurd q

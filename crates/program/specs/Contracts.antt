@@ -1,6 +1,6 @@
 -- What the answers of the code mean in the words of the rules, and the stages of reading a program file.
-use Prim.Native.Nat.{ℕ, _+_, _-_, _≤_}
-use mathlib.Core.Bool.{not, _&&_}
+use Prim.Native.Nat.{ℕ, suc, _+_, _-_, _≤_}
+use mathlib.Core.Bool.{Bool, false, not, _&&_}
 use mathlib.Core.List.{List}
 use lib.ListN.{length, getD}
 use lib.Dec.{leb, ltb, eqb}
@@ -10,9 +10,12 @@ use Rattle.rules.specs.Edition.{old, countAt, mostInstrs}
 use Rattle.rules.specs.Shape.{Shape}
 use Rattle.rules.specs.Expr.{Read, Announced, leaf, one, two, bad}
 use Rattle.rules.specs.Instr.{Instr, END}
-use Rattle.rules.specs.ProgramFile.{Program, Form, alone, withExpr, withVar, withLabel, unknown, codes, formOf, writable, isEnd}
+use Rattle.rules.specs.ProgramFile.{Program, codes, formOf, writable, isEnd}
 use Rattle.rules.specs.ProgramFile.{readBody, entryAt, bodyAt, readInstrs, readProgram}
 use Rattle.base.specs.Answers.{shapeOf, refusedBy}
+use Rattle.reader.specs.Bodies.{bodyIn}
+use Rattle.reader.specs.declared.body.Body.{Body}
+use Rattle.reader.specs.declared.body.Body.the-variants.{Alone, Value, Variable, Label}
 use Rattle.program.specs.declared.Checked.{Checked}
 use Rattle.program.specs.declared.Checked.the-variants as C
 use Rattle.program.specs.declared.header.Headed.{Headed}
@@ -21,8 +24,6 @@ use Rattle.program.specs.declared.expr.Walked.{Walked}
 use Rattle.program.specs.declared.expr.Walked.the-variants as W
 use Rattle.program.specs.declared.expr.Operands.{Operands}
 use Rattle.program.specs.declared.expr.Operands.the-variants.{Zero, One, Two, Bad}
-use Rattle.program.specs.declared.body.Follows.{Follows}
-use Rattle.program.specs.declared.body.Follows.the-variants.{Nothing, Expression, Variable, Label, Unknown}
 
 -- R46, R65: granted with nothing more, or the refusal.
 abbrev pub checkedVerdict : Checked → Verdict (Unit {0})
@@ -55,13 +56,9 @@ operandsOf one = One
 operandsOf (two o) = Two
 operandsOf bad = Bad
 
--- R10: what a code of that form asks for.
-abbrev pub followsOf : Form → Follows
-followsOf (alone x) = Nothing
-followsOf (withExpr g) = Expression
-followsOf (withVar g) = Variable
-followsOf (withLabel g) = Label
-followsOf unknown = Unknown
+-- R10, R48: a code at p that is followed by nothing.
+abbrev pub aloneAt : ℕ → ℕ → Verdict ℕ
+aloneAt c p = refuseIf (ltb 10 c) 5 p >>= λ _. granted (suc p)
 
 -- R12, R48: a variable to write that must stand at q.
 unfoldable pub variableAt : List ℕ → Shape → ℕ → Verdict ℕ
@@ -82,6 +79,17 @@ labelAt file n i q = do
 abbrev pub bodyRead : List ℕ → Shape → ℕ → ℕ → ℕ → Verdict (Read Instr)
 bodyRead file sh n i p = readBody old file sh n i p (formOf codes (getD file p 0))
 
+-- R9, R10: the body of instruction i of n, taken apart.
+abbrev pub instrIn : List ℕ → ℕ → ℕ → Body
+instrIn file n i = bodyIn file (bodyAt old file n i)
+
+-- R14: whether a body is END's.
+abbrev pub isEndBody : Body → Bool
+isEndBody (Alone c) = eqb c 10
+isEndBody (Value c p) = false
+isEndBody (Variable c b) = false
+isEndBody (Label c l) = false
+
 -- R8, R9: no body begins here or later: a header, the entries of 512 instructions, the largest entry.
 abbrev pub farthest : ℕ
 farthest = entryAt old mostInstrs + 65536
@@ -100,7 +108,7 @@ lastAt file n = bodyAt old file n (n - 1)
 unfoldable pub closed : List ℕ → ℕ → ℕ → Verdict (Unit {0})
 closed file n q = do
   _ ← refuseIf (ltb q (length file)) 4 q
-  refuseIf (not (eqb (getD file (lastAt file n) 0) 10)) 9 (lastAt file n)
+  refuseIf (not (isEndBody (instrIn file n (n - 1)))) 9 (lastAt file n)
 
 -- R8, R14, R48: what a program file has after its header.
 unfoldable pub readRest : List ℕ → Shape → Verdict Program

@@ -3,11 +3,11 @@ pub mod Contracts
 pub mod Chains
 pub mod Header
 pub mod Expr
+pub mod Reading
+pub mod Codes
 pub mod Body
 pub mod Walk
-pub mod Codes
 pub mod Last
 pub mod Rest
 pub mod Check
-pub mod Reading
 pub mod Standing

@@ -5,8 +5,8 @@ use mathlib.Core.Bool.{Bool, true, false, not, _&&_}
 use mathlib.Core.List.{List}
 use native.Mathlib.Omega.{arith}
 use lib.ListN.{length, getD}
-use lib.Dec.{leb, ltb, eqb}
-use borrow.Author.Tests.{lt-ltb, le-ltb, eq-eqb, ne-eqb}
+use lib.Dec.{leb, ltb}
+use borrow.Author.Tests.{lt-ltb, le-ltb}
 use Rattle.rules.specs.Verdict.{Verdict, granted, refused, refuseIf, _>>=_}
 use Rattle.rules.specs.Lists.{numberAt}
 use Rattle.rules.specs.Edition.{old, countAt}
@@ -18,10 +18,11 @@ use Rattle.rules.specs.ProgramFile.{entryAt, readInstrs}
 use Rattle.laws.specs.Verdict.{Grants, grants, within}
 use Rattle.base.specs.Answers.{refusedBy}
 use Rattle.base.specs.declared.refusal.Refusal.{Refusal}
+use Rattle.reader.specs.Bodies.{bodyIn}
 use Rattle.program.specs.declared.Checked.{Checked}
 use Rattle.program.specs.declared.expr.Walked.{Walked}
 use Rattle.program.specs.declared.expr.Walked.the-variants.{To, Refused}
-use Rattle.program.specs.Contracts.{checkedVerdict, walkedVerdict, ends, Contents, lastAt, closed, readRest, instrsOf}
+use Rattle.program.specs.Contracts.{checkedVerdict, walkedVerdict, ends, Contents, instrIn, isEndBody, lastAt, closed, readRest, instrsOf}
 use Rattle.program.specs.Last.{Closing, instrs-closing}
 
 -- Two checks that hand back nothing.
@@ -44,7 +45,7 @@ module _ (file : List ℕ) (sh : Shape) (n : ℕ) where
   unfolding closed
   finish-closed (granted xs) q (grants c) e =
       let z : xs .next ≡ q = cc in
-      rw (c .ending, z) (checked (ltb q (length file)) (not (eqb (getD file (lastAt file n) 0) 10)) 4 q 9 (lastAt file n) _)
+      rw (c .ending, z) (checked (ltb q (length file)) (not (isEndBody (instrIn file n (n - 1)))) 4 q 9 (lastAt file n) _)
   finish-closed (refused a b) q g e =
       let z : _≡_ {A = ℕ} 0 1 = cc in
       absurd (omega arith)
@@ -59,28 +60,20 @@ module _ (file : List ℕ) (sh : Shape) (n : ℕ) where
       let z : d ≡ b = cc in
       rw (y, z)
 
-  -- If the instructions are read, the code of the last is there.
-  last-there : (m : Verdict (Read (List Instr))) (q : ℕ) → Grants (Closing file n) m → ends m ≡ granted q
-      → lastAt file n < length file
-  last-there (granted xs) q (grants c) e = c .there
-  last-there (refused a b) q g e =
-      let z : _≡_ {A = ℕ} 0 1 = cc in
-      absurd (omega arith)
-
--- R9, R14, R48: after n instructions that end at q; b is where the entry of the last leads.
+-- R9, R14, R48: after n instructions that end at q; b is where the entry of the last leads, and r says whether END stands there.
 module _ (file : List ℕ) (n q : ℕ) where
   pub closed-more : q < length file → refused 4 q ≡ closed file n q
   unfolding closed
   closed-more h = rw (lt-ltb q (length file) h)
 
-  module _ (h : length file ≤ q) (b : ℕ) (e : b ≡ lastAt file n) where
-    pub closed-other : (getD file b 0 ≡ 10 → ⊥) → refused 9 b ≡ closed file n q
+  module _ (h : length file ≤ q) (b : ℕ) (e : b ≡ lastAt file n) (r : Bool) (is : r ≡ isEndBody (bodyIn file b)) where
+    pub closed-other : not r ≡ true → refused 9 b ≡ closed file n q
     unfolding closed
-    closed-other t = rw (le-ltb q (length file) h, ← e, ne-eqb (getD file b 0) 10 t)
+    closed-other t = rw (le-ltb q (length file) h, ← e, ← is, t)
 
-    pub closed-end : getD file b 0 ≡ 10 → granted tt ≡ closed file n q
+    pub closed-end : not r ≡ false → granted tt ≡ closed file n q
     unfolding closed
-    closed-end t = rw (le-ltb q (length file) h, ← e, eq-eqb (getD file b 0) 10 t)
+    closed-end t = rw (le-ltb q (length file) h, ← e, ← is, t)
 
 -- R8, R48: what follows a header with that shape and the count n.
 module _ (file : List ℕ) (sh : Shape) (n : ℕ) (d : Bool) (e : n ≡ numberAt 2 file (countAt old))
@@ -108,11 +101,6 @@ module _ (file : List ℕ) (sh : Shape) (n : ℕ) (d : Bool) (e : n ≡ numberAt
             (sym (finish-refused file sh n (readInstrs old file sh n n (entryAt old n)) _ _ (sym (rw z at g))))
 
         module _ (q : ℕ) (z : r ≡ To q) where
-          pub rest-last : lastAt file n < length file
-          rest-last =
-              let m = instrs-closing file sh n (entryAt old n) (contents .some) in
-              last-there file sh n (readInstrs old file sh n n (entryAt old n)) q m (sym (rw z at g))
-
           pub rest-closed : (k : Checked) → checkedVerdict k ≡ closed file n q → checkedVerdict k ≡ instrsOf file sh
           unfolding readRest
           rest-closed k c =

@@ -1,5 +1,5 @@
 -- An instruction of an accepted program: what its bytes tell.
-use Prim.Native.Nat.{ℕ, suc, _+_, _≤_, _<_}
+use Prim.Native.Nat.{ℕ, _≤_, _<_}
 use mathlib.Core.Path.{_≡_, refl, sym, ap, _∙_}
 use mathlib.Core.List.{List, []}
 use native.Mathlib.Omega.{arith}
@@ -8,18 +8,17 @@ use Rattle.rules.specs.Verdict.{Verdict, granted, refused, _>>=_}
 use Rattle.rules.specs.Lists.{numberAt}
 use Rattle.rules.specs.Edition.{old}
 use Rattle.rules.specs.Shape.{vars, cells, shapeAt}
-use Rattle.rules.specs.Instr.{Instr, plain, END}
-use Rattle.rules.specs.ProgramFile.{Program, readProgram, entryAt, bodyAt}
+use Rattle.rules.specs.Instr.{Instr, END}
+use Rattle.rules.specs.ProgramFile.{Program, readProgram, entryAt}
 use Rattle.laws.specs.Canonical.{WellFormed}
 use Rattle.laws.specs.Shape.{Limits, shape-limits}
 use Rattle.laws.specs.ProgramFile.{read-wellformed, read-shape}
 use Rattle.laws.specs.Decode.{Decodes, read-decodes}
 use Rattle.base.specs.declared.shape.Shape.{Shape}
-use Rattle.base.specs.declared.kinds.Instr as K
 use Rattle.base.specs.Answers.{shapeOf}
-use Rattle.program.specs.Contracts.{checkOf}
-use Rattle.program.specs.Codes.{onExpr, onVariable, onLabel, Coded, coded}
-use Rattle.program.specs.Reading.{Reads, Legible}
+use Rattle.reader.specs.declared.body.Body.{Body}
+use Rattle.program.specs.Contracts.{checkOf, instrIn}
+use Rattle.program.specs.Codes.{Tells, body-tells}
 
 -- The program of an accepted file.
 abbrev pub grantedProgram : Verdict Program → Program
@@ -92,63 +91,8 @@ module _ (file : List ℕ) (sh : Shape) (n i : ℕ) (r : Standing file sh n i) w
   pub contents-there : entryAt old n ≤ length file
   contents-there = omega (arith, decodes file (r .accepted) .contents, r .count)
 
-  module _ (at : ℕ) (here : at ≡ bodyAt old file n i) where
-    stands : (at < length file) × Coded old file (programIn file .shape) n i at (getD file at 0) (instrAt file i)
-    stands =
-        let s = decodes file (r .accepted) .stands i (omega (arith, r .low, r .count)) in (
-          omega (arith, here, ap (λ m. bodyAt old file m i) (r .count), s .inside),
-          coded old file (programIn file .shape) n i at (getD file at 0) (instrAt file i) (rw (here, r .count) (s .says)),
-        )
-
-    pub inside : at < length file
-    inside = stands .0
-
-    -- What the code c tells, which stands there.
-    module _ (c : ℕ) (is : c ≡ getD file at 0) where
-      pub tells : Coded old file (programIn file .shape) n i at c (instrAt file i)
-      tells = rw is (stands .1)
-
-      -- R11: the expression after the code.
-      pub expression : (h : 10 < c) (k : c < 32) (v : ℕ) → v ≡ vars (shapeOf sh) → Reads file v (at + 65) (at + 1) (tells .expr h k .2)
-      expression h k v e =
-          let q : v ≡ vars (programIn file .shape) = e ∙ ap vars (r .shaped) in
-          let a : at + 65 ≡ suc at + 64 = omega arith in
-          let b : at + 1 ≡ suc at = omega arith in
-          record { fuel = 64; is = rw (q, a, b) (tells .expr h k .3) }
-
-      pub expression-there : 10 < c → c < 32 → (v : ℕ) → v ≡ vars (shapeOf sh) → Legible file v (at + 65) (at + 1)
-      expression-there h k v e = record { what = tells .expr h k .2; reads = expression h k v e; most = omega (arith, most-vars) }
-
-      pub value-codes : 10 < c → c < 32 → (16 ≤ c) × (c < 20)
-      value-codes h k = (tells .expr h k .0, tells .expr h k .1)
-
-      pub with-value : (h : 10 < c) (k : c < 32) → instrAt file i ≡ plain (onExpr c (tells .expr h k .2 .got))
-      with-value h k = tells .expr h k .4
-
-      -- R12: the variable after the code is there, and below V.
-      pub variable-there : 32 ≤ c → c < 48 → at + 1 < length file
-      variable-there h k = omega (arith, tells .var h k .1)
-
-      module _ (h : 32 ≤ c) (k : c < 48) (b : ℕ) (e : b ≡ getD file (at + 1) 0) where
-        variable : b ≡ getD file (suc at) 0
-        variable = e ∙ ap (λ m. getD file m 0) (omega arith)
-
-        pub variable-codes : (32 ≤ c) × (c < 37) × (b < vars (shapeOf sh))
-        variable-codes = (h, tells .var h k .0, omega (arith, variable, tells .var h k .2, ap vars (r .shaped)))
-
-        pub with-variable : instrAt file i ≡ plain (onVariable c b)
-        with-variable = tells .var h k .3 ∙ ap (λ m. plain (onVariable c m)) (sym variable)
-
-      -- R13: the label after the code is whole, and names a later instruction.
-      pub label-there : 48 ≤ c → at + 1 + 2 ≤ length file
-      label-there h = omega (arith, tells .label h .1)
-
-      module _ (h : 48 ≤ c) (l : K.Instr) (to : l .0 ≡ numberAt 2 file (at + 1)) where
-        label : l .0 ≡ numberAt 2 file (suc at)
-        label = to ∙ ap (numberAt 2 file) (omega arith)
-
-        pub goes : instrAt file i ≡ onLabel c (l .0)
-        goes = tells .label h .4 ∙ ap (onLabel c) (sym label)
-
-        pub later : (i < l .0) × (l .0 < n)
-        later = (omega (arith, tells .label h .2, label), omega (arith, tells .label h .3, label))
+  -- R10 to R13: what its body b tells.
+  pub tells : (b : Body) → b ≡ instrIn file n i → Tells file (vars (shapeOf sh)) n i (instrAt file i) b
+  tells b e =
+      let s = decodes file (r .accepted) .stands i (omega (arith, r .low, r .count)) in
+      rw (e, r .shaped, r .count) (body-tells file (programIn file .shape) _ i _ (instrAt file i) (s .inside) (s .says))

@@ -6,38 +6,18 @@ use base::kinds::Cell;
 use base::kinds::Instr;
 use base::refusal::Refusal;
 use base::shape::Shape;
+use reader::body::Body;
+use reader::read_at;
 ghost use mathlib.Core.Path.{_≡_};
 ghost use mathlib.Core.Bool.{_&&_};
 ghost use Prim.Native.Nat.{_≤_, _<_};
 ghost use lib.Dec.{ltb};
-ghost use lib.ListN.{length};
+ghost use lib.ListN.{length, getD};
 ghost use Rattle.rules.specs.Edition.{old};
-ghost use Rattle.rules.specs.ProgramFile.{codes, formOf, writable, entryAt, bodyAt};
+ghost use Rattle.rules.specs.Lists.{numberAt};
+ghost use Rattle.rules.specs.ProgramFile.{writable, entryAt, bodyAt};
 ghost use Rattle.base.specs.Answers.{shapeOf};
-ghost use Rattle.program.specs.Contracts.{walkedVerdict, ends, followsOf, variableAt, labelAt, bodyRead, farthest};
-
-// R10: what follows a code.
-pub enum Follows {
-    Nothing,
-    Expression,
-    Variable,
-    Label,
-    // There is no such code.
-    Unknown,
-}
-
-// R10: what a code asks for.
-fn asked_by(code: u8) -> Follows
-    ensures { λ r. ⌜ r ≡ followsOf (formOf codes code) ⌝ }
-{
-    match code {
-        0..=10 => Follows::Nothing,
-        16..=19 => Follows::Expression,
-        32..=36 => Follows::Variable,
-        48..=51 => Follows::Label,
-        _ => Follows::Unknown,
-    }
-}
+ghost use Rattle.program.specs.Contracts.{walkedVerdict, ends, variableAt, labelAt, aloneAt, bodyRead, instrIn, farthest};
 
 // R12: whether an instruction may write a variable: it is below V, and no input.
 fn may_write(shape: Shape, b: Cell) -> bool
@@ -46,14 +26,15 @@ fn may_write(shape: Shape, b: Cell) -> bool
     shape.inputs <= b.0 && (b.0 as usize) < shape.vars()
 }
 
-// R12, R48: the variable at a place is there (1) and may be written (7).
-fn read_variable(file: &[u8], shape: Shape, at: usize) -> Walked
+// R12, R48: the variable b, which must stand at a place, is there (1) and may be written (7).
+fn check_variable(file: &[u8], shape: Shape, b: Cell, at: usize) -> Walked
+    requires { ⌜ b .0 ≡ getD (now file) at 0 ⌝ }
     ensures { λ r. ⌜ walkedVerdict r ≡ variableAt (now (file .entry)) (shapeOf shape) at ⌝ }
 {
     if file.len() <= at {
         return Walked::Refused(Refusal::EndsEarly(file.len()));
     }
-    if !may_write(shape, Cell::of_byte(file[at])) {
+    if !may_write(shape, b) {
         return Walked::Refused(Refusal::NotWritable(at));
     }
     Walked::To(at + 1)
@@ -66,31 +47,41 @@ fn may_jump(i: Instr, l: Instr, n: usize) -> bool
     i.0 < l.0 && (l.0 as usize) < n
 }
 
-// R13, R48: the label at a place is whole (1) and leads to a later instruction (8).
-fn read_label(file: &[u8], n: usize, i: Instr, at: usize) -> Walked
-    requires { ⌜ at ≤ farthest ⌝ }
+// R13, R48: the label l, which must stand at a place, is whole (1) and leads to a later instruction (8).
+fn check_label(file: &[u8], n: usize, i: Instr, l: Instr, at: usize) -> Walked
+    requires { ⌜ (l .0 ≡ numberAt 2 (now file) at) × (at ≤ farthest) ⌝ }
     ensures { λ r. ⌜ walkedVerdict r ≡ labelAt (now (file .entry)) n (i .0) at ⌝ }
 {
     if file.len() < at + 2 {
         return Walked::Refused(Refusal::EndsEarly(file.len()));
     }
-    if !may_jump(i, Instr::of_word(word(file, at)), n) {
+    if !may_jump(i, l, n) {
         return Walked::Refused(Refusal::BadLabel(at));
     }
     Walked::To(at + 2)
 }
 
+// R10, R48: a code at a place that is followed by nothing is known (5).
+fn check_alone(code: u8, at: usize) -> Walked
+    requires { ⌜ at < farthest ⌝ }
+    ensures { λ r. ⌜ walkedVerdict r ≡ aloneAt code at ⌝ }
+{
+    if 10 < code {
+        return Walked::Refused(Refusal::UnknownCode(at));
+    }
+    Walked::To(at + 1)
+}
+
 // R10, R48: the body of instruction i of n at a place: its code is known (5), and then its operand.
 pub fn read_body(file: &[u8], shape: Shape, n: usize, i: Instr, at: usize) -> Walked
-    requires { do ⌜ (at < (← ⟦file.len()⟧)) × (at < farthest) ⌝ }
+    requires { ⌜ at < farthest ⌝ }
     ensures { λ r. ⌜ walkedVerdict r ≡ ends (bodyRead (now (file .entry)) (shapeOf shape) n (i .0) at) ⌝ }
 {
-    match asked_by(file[at]) {
-        Follows::Nothing => Walked::To(at + 1),
-        Follows::Expression => read_expr(file, shape.vars(), at + 65, at + 1),
-        Follows::Variable => read_variable(file, shape, at + 1),
-        Follows::Label => read_label(file, n, i, at + 1),
-        Follows::Unknown => Walked::Refused(Refusal::UnknownCode(at)),
+    match read_at(file, at) {
+        Body::Alone(code) => check_alone(code, at),
+        Body::Value(_, from) => read_expr(file, shape.vars(), at + 65, from),
+        Body::Variable(_, b) => check_variable(file, shape, b, at + 1),
+        Body::Label(_, l) => check_label(file, n, i, l, at + 1),
     }
 }
 
@@ -100,4 +91,12 @@ pub fn body_at(file: &[u8], n: usize, i: Instr) -> usize
     ensures { λ r. ⌜ (r ≡ bodyAt old (now (file .entry)) n (i .0)) × (r < farthest) ⌝ }
 {
     7 + 2 * n + word(file, 7 + 2 * (i.0 as usize))
+}
+
+// R9, R10: the body of instruction i of n, where its entry leads; nothing before it is read.
+pub fn instr_at(file: &[u8], n: usize, i: Instr) -> Body
+    requires { ⌜ (i .0 < n) × (n ≤ 512) × (entryAt old n ≤ length (now file)) ⌝ }
+    ensures { λ r. ⌜ r ≡ instrIn (now (file .entry)) n (i .0) ⌝ }
+{
+    read_at(file, body_at(file, n, i))
 }

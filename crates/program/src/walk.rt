@@ -8,13 +8,14 @@ use base::bytes::word;
 use base::kinds::Instr;
 use base::refusal::Refusal;
 use base::shape::Shape;
+use reader::body::Body;
+use reader::read_at;
 ghost use mathlib.Core.Path.{_≡_};
 ghost use Prim.Native.Nat.{_≤_, _<_};
-ghost use lib.ListN.{length};
 ghost use Rattle.rules.specs.Edition.{old};
 ghost use Rattle.rules.specs.ProgramFile.{entryAt, readInstr, readInstrs};
 ghost use Rattle.base.specs.Answers.{shapeOf};
-ghost use Rattle.program.specs.Contracts.{checkedVerdict, walkedVerdict, ends, Contents, lastAt, closed, instrsOf};
+ghost use Rattle.program.specs.Contracts.{checkedVerdict, walkedVerdict, ends, Contents, isEndBody, closed, instrsOf};
 
 // R9, R48: instruction i of n, whose body must begin at a place: its entry says so (4), a code is there (1), and then its body.
 fn read_instr(file: &[u8], shape: Shape, n: usize, i: Instr, at: usize) -> Walked
@@ -53,16 +54,28 @@ fn read_instrs(file: &[u8], shape: Shape, n: usize) -> Walked
     Walked::To(at)
 }
 
+// R14: whether a body is END's.
+fn is_end(body: Body) -> bool
+    ensures { λ r. ⌜ r ≡ isEndBody body ⌝ }
+{
+    match body {
+        Body::Alone(code) => code == 10,
+        Body::Value(_, _) => false,
+        Body::Variable(_, _) => false,
+        Body::Label(_, _) => false,
+    }
+}
+
 // R9, R14, R48: after n instructions that end at a place: the file ends there too (4), and the last is END (9).
 fn check_end(file: &[u8], n: usize, at: usize) -> Checked
-    requires { ⌜ Contents (now file) n × (lastAt (now file) n < length (now file)) ⌝ }
+    requires { ⌜ Contents (now file) n ⌝ }
     ensures { λ r. ⌜ checkedVerdict r ≡ closed (now (file .entry)) n at ⌝ }
 {
     if at < file.len() {
         return Checked::Refused(Refusal::Misplaced(at));
     }
     let last = body_at(file, n, Instr::of_word(n - 1));
-    if file[last] != 10 {
+    if !is_end(read_at(file, last)) {
         return Checked::Refused(Refusal::LastNotEnd(last));
     }
     Checked::Granted

@@ -1,6 +1,6 @@
 -- The body at a place of a program file, as the code has it.
 use Prim.Native.Nat.{ℕ, zero, suc, _+_, _≤_, _<_}
-use mathlib.Core.Path.{_≡_, ap}
+use mathlib.Core.Path.{_≡_, refl, ap}
 use mathlib.Core.Bool.{Bool, true, _&&_}
 use mathlib.Core.List.{List}
 use native.Mathlib.Omega.{arith}
@@ -76,3 +76,21 @@ module _ (file : List ℕ) (p c : ℕ) (is : c ≡ getD file p 0) where
 
   pub run-is : (k from n : ℕ) → alike k from n ≡ true → from ≤ c → c < from + n → byKind k ≡ bodyIn file p
   run-is k from n t l h = body-is k (in-run k from n c t l h)
+
+-- What a body has of the bytes at p.
+abbrev pub Stands : List ℕ → ℕ → Body → Type 0
+Stands file p (Alone c) = c ≡ getD file p 0
+Stands file p (Value c q) = (c ≡ getD file p 0) × (q ≡ p + 1)
+Stands file p (Variable c b) = (c ≡ getD file p 0) × (b .0 ≡ getD file (p + 1) 0)
+Stands file p (Label c l) = (c ≡ getD file p 0) × (l .0 ≡ numberAt 2 file (p + 1))
+
+pub body-stands : (file : List ℕ) (p : ℕ) (b : Body) → b ≡ bodyIn file p → Stands file p b
+unfolding bodyIn
+body-stands file p b e = rw e (go (formOf codes (getD file p 0)))
+  where
+    go : (m : Form) → Stands file p (taken m file p)
+    go (alone x) = refl
+    go (withExpr g) = (refl, refl)
+    go (withVar g) = (refl, refl)
+    go (withLabel g) = (refl, refl)
+    go unknown = refl

@@ -1,11 +1,14 @@
-use Rattle.program.specs.Rest.{closed-more, closed-other, closed-end}
+-- `check_end` meets its contract: a law for each answer.
+use mathlib.Core.Path.{ap, _∙_}
 use native.Mathlib.Omega.{arith}
+use Rattle.program.specs.Contracts.{isEndBody}
+use Rattle.program.specs.Rest.{closed-more, closed-other, closed-end}
 use borrow.Author.Needs.{needs}
 use Rattle.program.proofs.walk.check_end.Statement.{statement}
 use Rattle.program.proofs.walk.check_end.Tie as tie
 
 returns : tie.Need-returns
-returns c = closed-more _ _ _ (omega arith)
+returns c = closed-more _ _ _ (c .if1 .taken)
 
 sub-of-word : tie.Need-sub-of-word
 sub-of-word c = search needs
@@ -16,20 +19,17 @@ of-word-requires c κs = search needs
 body-at-requires : tie.Need-body-at-requires
 body-at-requires c κs = search needs
 
-shared-slice-read-if2 : tie.Need-shared-slice-read-if2
-shared-slice-read-if2 c =
-    let c5 = c .before .before .before .before .before in
-    omega (arith, c5 .pre .1, (rw (c .before .before .of-word .ensures) at (c .before .body-at .ensures .0)))
+read-at-requires : tie.Need-read-at-requires
+read-at-requires c κs = search needs
+
+is-end-requires : tie.Need-is-end-requires
+is-end-requires c κs = search needs
 
 returns-2 : tie.Need-returns-2
-returns-2 c =
-    let c3 = c .before .before .before in
-    closed-other _ _ _ (omega arith) _ (rw (c3 .of-word .ensures) at (c .before .before .body-at .ensures .0)) (c .if2 .taken)
+returns-2 c = closed-other _ _ _ (omega arith) _ (rw (c .before .before .before .before .of-word .ensures) at (c .before .before .before .body-at .ensures .0)) _ (c .before .is-end .ensures ∙ ap isEndBody (c .before .before .read-at .ensures)) (c .if2 .taken)
 
 returns-3 : tie.Need-returns-3
-returns-3 c =
-    let c3 = c .before .before .before in
-    closed-end _ _ _ (omega arith) _ (rw (c3 .of-word .ensures) at (c .before .before .body-at .ensures .0)) (c .if2 .left)
+returns-3 c = closed-end _ _ _ (omega arith) _ (rw (c .before .before .before .before .of-word .ensures) at (c .before .before .before .body-at .ensures .0)) _ (c .before .is-end .ensures ∙ ap isEndBody (c .before .before .read-at .ensures)) (c .if2 .left)
 
 pub check-end-spec : {M : Type 1} → statement M
 check-end-spec =
@@ -39,6 +39,7 @@ check-end-spec =
     sub-of-word
     of-word-requires
     body-at-requires
-    shared-slice-read-if2
+    read-at-requires
+    is-end-requires
     returns-2
     returns-3)

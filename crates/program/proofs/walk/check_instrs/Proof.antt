@@ -1,10 +1,8 @@
 -- `check_instrs` meets its contract: a law for each answer; instructions that were read have the last code in the file.
-use Prim.Native.Nat.{_+_, _*_, _≤_}
 use native.Mathlib.Omega.{arith}
-use lib.ListN.{length}
 use borrow.Author.Needs.{needs}
 use Rattle.base.specs.Answers.{shapeOf}
-use Rattle.program.specs.Rest.{rest-count, rest-short, contents, rest-refused, rest-last, rest-closed}
+use Rattle.program.specs.Rest.{rest-count, rest-short, contents, rest-refused, rest-closed}
 use Rattle.program.proofs.walk.check_instrs.Statement.{statement}
 use Rattle.program.proofs.walk.check_instrs.Tie as tie
 
@@ -51,14 +49,8 @@ check-end-requires c κs =
     let a = c .before .before .before .before .before .before .before .before .before .args in
     let w = c .before .before .before .before .before .before .before .word in
     let d = c .before .before .before .before .before .before .within in
-    let l : 7 + 2 * w .result ≤ length (a .file .now) = omega arith in
-    let t = c .before .before .before .before .before .if1 .left in
-    let r = c .before .before .before .read-instrs in
-    let k = contents (a .file .now) (shapeOf (a .shape)) (w .result) (d .result) (w .ensures .0) (d .ensures) t l in (
-      k,
-      rest-last (a .file .now) (shapeOf (a .shape)) (w .result) (d .result) (w .ensures .0) (d .ensures) t l (r .result)
-          (r .ensures) (c .before .at .given .0 .0) (c .before .at .given .1),
-    )
+    contents (a .file .now) (shapeOf (a .shape)) (w .result) (d .result) (w .ensures .0) (d .ensures)
+    (c .before .before .before .before .before .if1 .left) (omega arith)
 
 enum-known-x : tie.Need-enum-known-x
 enum-known-x c = search needs

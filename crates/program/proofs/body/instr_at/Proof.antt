@@ -1,0 +1,18 @@
+-- `instr_at` meets its contract: its place is where its entry leads.
+use mathlib.Core.Path.{ap, _∙_}
+use Rattle.reader.specs.Bodies.{bodyIn}
+use borrow.Author.Needs.{needs}
+use Rattle.program.proofs.body.instr_at.Statement.{statement}
+use Rattle.program.proofs.body.instr_at.Tie as tie
+
+body-at-requires : tie.Need-body-at-requires
+body-at-requires c κs = search needs
+
+read-at-requires : tie.Need-read-at-requires
+read-at-requires c κs = search needs
+
+returns : tie.Need-returns
+returns c = c .read-at .ensures ∙ ap (bodyIn _) (c .before .body-at .ensures .0)
+
+pub instr-at-spec : {M : Type 1} → statement M
+instr-at-spec = tie.close (tie.spec body-at-requires read-at-requires returns)
