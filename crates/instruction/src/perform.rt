@@ -17,7 +17,7 @@ ghost use Rattle.program.specs.Codes.{aloneOf, onVariable};
 ghost use Rattle.instruction.specs.Perform.{Fitting, onValue};
 
 // INIT, NOT, TAND, TOR (R17).
-pub fn flag_op(shape: Shape, s: &mut [u8], code: u8)
+fn flag_op(shape: Shape, s: &mut [u8], code: u8)
     requires { ⌜ Fitting shape (now s) ⌝ }
     requires { ⌜ code < 4 ⌝ }
     ensures { λ _. ⌜ now (s .exit) ≡ stored (shapeOf shape) (now (s .entry)) (aloneOf code) ⌝ }
@@ -41,7 +41,7 @@ pub fn flag_op(shape: Shape, s: &mut [u8], code: u8)
 }
 
 // PUSH, POP, DROP, DUP, FSWP, ESWP (R19).
-pub fn stack_op(shape: Shape, s: &mut [u8], code: u8)
+fn stack_op(shape: Shape, s: &mut [u8], code: u8)
     requires { ⌜ Fitting shape (now s) ⌝ }
     requires { ⌜ (4 ≤ code) × (code < 10) ⌝ }
     ensures { λ _. ⌜ now (s .exit) ≡ stored (shapeOf shape) (now (s .entry)) (aloneOf code) ⌝ }
@@ -74,6 +74,19 @@ pub fn stack_op(shape: Shape, s: &mut [u8], code: u8)
     let z = cell_at(s, Cell(f.0 + 2));
     put_cell(s, Cell(f.0 + 2), y);
     put_cell(s, Cell(f.0 + 1), z);
+}
+
+// An instruction that stands alone, and is not END (R17, R19).
+pub fn alone_op(shape: Shape, s: &mut [u8], code: u8)
+    requires { ⌜ Fitting shape (now s) ⌝ }
+    requires { ⌜ code < 10 ⌝ }
+    ensures { λ _. ⌜ now (s .exit) ≡ stored (shapeOf shape) (now (s .entry)) (aloneOf code) ⌝ }
+{
+    if code < 4 {
+        flag_op(shape, s, code);
+        return;
+    }
+    stack_op(shape, s, code);
 }
 
 // LOAD, AND, OR, EPUSH, where x is the value of the expression (R17, R19).

@@ -1,35 +1,34 @@
 -- What one instruction does, from its code, the bytes after it and the storage.
-use Prim.Native.Nat.{ℕ, suc, _+_, _≤_, _<_}
-use mathlib.Core.Path.{_≡_, sym, ap, _∙_}
-use mathlib.Core.Bool.{true, false}
-use mathlib.Core.List.{List, _∷_}
+use Prim.Native.Nat.{ℕ, zero, suc, _-_, _+_, _≤_, _<_}
+use mathlib.Core.Path.{_≡_, refl, sym, ap, _∙_}
+use mathlib.Core.Bool.{Bool, true, false}
+use mathlib.Core.List.{List}
 use native.Mathlib.Omega.{arith}
-use native.Mathlib.Decide.{decLt}
-use mathlib.Core.Logic.{_⊎_, inl, inr}
 use lib.ListN.{length, getD}
 use lib.Dec.{eqb}
-use borrow.Author.Tests.{eq-eqb, ne-eqb}
-use Rattle.rules.specs.Lists.{numberAt}
-use Rattle.rules.specs.Edition.{old}
+use borrow.Author.Tests.{eq-eqb, ne-eqb, eqb-true, eqb-false}
 use Rattle.rules.specs.Shape.{vars, flag, cells}
 use Rattle.rules.specs.Instr.{Plain, INIT, plain, END}
-use Rattle.rules.specs.ProgramFile.{bodyAt}
-use Rattle.rules.specs.Machine.{due, obey, perform}
+use Rattle.rules.specs.Machine.{perform}
 use Rattle.rules.specs.Operations.{storageBytes}
 use Rattle.base.specs.declared.shape.Shape.{Shape}
+use Rattle.base.specs.declared.kinds.Cell.{Cell}
 use Rattle.base.specs.declared.kinds.Instr.{Instr}
 use Rattle.base.specs.Answers.{shapeOf}
 use Rattle.storage.specs.Cells.{bitsOf, byteOf, Storage, resetFrom, stored}
 use Rattle.storage.specs.Stores.{getD-bits, bits-back, performed-storage, perform-stored}
-use Rattle.machine.specs.declared.obey.Move.the-variants.{On, Call, End}
+use Rattle.machine.specs.declared.obey.Move.{Move}
+use Rattle.machine.specs.declared.obey.Move.the-variants.{On, End}
 use Rattle.instruction.specs.declared.eval.Valued.{Valued}
-use Rattle.program.specs.Codes.{aloneOf, onExpr, onVariable, onLabel}
+use Rattle.program.specs.Contracts.{instrIn}
+use Rattle.program.specs.Codes.{aloneOf, onExpr, onVariable, onLabel, Tells}
+use Rattle.reader.specs.declared.body.Body.{Body}
+use Rattle.reader.specs.declared.body.Body.the-variants.{Alone, Value, Variable, Label}
 use Rattle.instruction.specs.Perform.{Fitting, onValue}
 use Rattle.instruction.specs.PerformLaws.{value-stored}
-use Rattle.program.specs.Codes.{Coded}
-use Rattle.program.specs.Standing.{programIn, instrAt, Standing, formed, deep, most-vars, most-cells, tells, expression, expression-there, with-variable, goes, later}
+use Rattle.program.specs.Standing.{programIn, instrAt, Standing, formed, deep, most-vars, most-cells, tells}
 use Rattle.instruction.specs.Value.{Readable, Values}
-use Rattle.machine.specs.Run.{Performed, Runnable, Obeys}
+use Rattle.machine.specs.Run.{Runnable, Leads, jumpBy, Obeys}
 
 module _ (file : List ℕ) (sh : Shape) (n : ℕ) (s : List ℕ) (i : ℕ) (r : Runnable file sh n s i) where
   abbrev place : Standing file sh n i
@@ -58,119 +57,124 @@ module _ (file : List ℕ) (sh : Shape) (n : ℕ) (s : List ℕ) (i : ℕ) (r : 
   storage-after s′ p e = rw (e, ← bytes-after p) (performed-storage (programIn file .shape) p (bitsOf s))
 
   -- R22: after a plain instruction the next one is due.
-  pub obeys-plain : (s′ : List ℕ) → Performed file s i s′ → (j : Instr) → j .0 ≡ i + 1 → Obeys file s i (On j) s′
-  obeys-plain s′ p j e =
-      let fine = rw (p .is) at (formed file sh n i place .fine i (omega (arith, place .low, place .count))) in
+  obeys-plain : (p : Plain) → instrAt file i ≡ plain p → (s′ : List ℕ) → s′ ≡ stored (shapeOf sh) s p → (j : Instr) → j .0 ≡ i + 1
+      → Obeys file s i (On j) s′
+  obeys-plain p is s′ g j e =
+      let fine = rw is at (formed file sh n i place .fine i (omega (arith, place .low, place .count))) in
       let next : j .0 ≡ suc i = omega arith in
+      let gives : s′ ≡ stored (programIn file .shape) s p = g ∙ ap (λ z. stored z s p) (place .shaped) in
       record {
-        leads = (omega arith, omega (arith, fine .1), λ q. rw (p .is, bits-after s′ (p .what) (p .gives), next));
-        stored = storage-after s′ (p .what) (p .gives);
+        leads = (omega arith, omega (arith, fine .1), λ q. rw (is, bits-after s′ p gives, next));
+        stored = storage-after s′ p gives;
       }
 
-  module _ (at : ℕ) (here : at ≡ bodyAt old file n i) (c : ℕ) (is : c ≡ getD file at 0) where
-    -- What the code read there tells.
-    abbrev told : Coded old file (programIn file .shape) n i at c (instrAt file i)
-    told = tells file sh n i place at here c is
+  module _ (b : Body) (is : b ≡ instrIn file n i) where
+    -- What the body there tells.
+    abbrev told : Tells file (vars (shapeOf sh)) n i (instrAt file i) b
+    told = tells file sh n i place b is
 
-    -- R23: END.
-    pub obeys-end : c ≡ 10 → (f : ℕ) → f ≡ flag (shapeOf sh) → (s′ : List ℕ) → s′ ≡ resetFrom f s → Obeys file s i End s′
-    unfolding stored
-    obeys-end h f e s′ g =
-        let x : instrAt file i ≡ END = told .lone (omega arith) .2 h in
-        let q : f ≡ flag (programIn file .shape) = e ∙ ap flag (place .shaped) in
-        let t : s′ ≡ stored (programIn file .shape) s INIT = g ∙ ap (λ k. resetFrom k s) q in
-        record { leads = λ l. rw (x, bits-after s′ INIT t); stored = storage-after s′ INIT t }
+    module _ (c : ℕ) (e : b ≡ Alone c) where
+      abbrev lone : Tells file (vars (shapeOf sh)) n i (instrAt file i) (Alone c)
+      lone = rw e at told
 
-    -- R17, R19: an instruction of a code alone.
-    pub by-alone : c < 10 → (s′ : List ℕ) → s′ ≡ stored (shapeOf sh) s (aloneOf c) → Performed file s i s′
-    by-alone h s′ g = record { what = aloneOf c; is = told .lone (omega arith) .1 h; gives = g ∙ ap (λ t. stored t s (aloneOf c)) (place .shaped) }
+      pub alone-low : (c ≡ 10 → ⊥) → c < 10
+      alone-low h = omega (arith, lone .0)
 
-    -- R11: the expression after the code can be worked out.
-    pub readable : 10 < c → c < 32 → (v : ℕ) → v ≡ vars (shapeOf sh) → Readable file s v (at + 65) (at + 1)
-    readable h k v e = record {
-      legible = expression-there file sh n i place at here c is h k v e;
-      enough = omega (arith, r .stored .size, ap vars (place .shaped));
-      holds = r .stored .bits;
-    }
+      -- R23: END.
+      pub obeys-end : c ≡ 10 → (f : ℕ) → f ≡ flag (shapeOf sh) → (s′ : List ℕ) → s′ ≡ resetFrom f s → Obeys file s i End s′
+      unfolding stored
+      obeys-end h f k s′ g =
+          let x : instrAt file i ≡ END = lone .2 h in
+          let q : f ≡ flag (programIn file .shape) = k ∙ ap flag (place .shaped) in
+          let t : s′ ≡ stored (programIn file .shape) s INIT = g ∙ ap (λ z. resetFrom z s) q in
+          record { leads = λ l. rw (x, bits-after s′ INIT t); stored = storage-after s′ INIT t }
 
-    -- R17, R19: an instruction with an expression.
-    pub by-value : (h : 10 < c) (k : c < 32) (v : ℕ) → v ≡ vars (shapeOf sh) → (y : Valued) → Values file s v (at + 65) (at + 1) y
-        → (s′ : List ℕ) → s′ ≡ onValue (shapeOf sh) s c (y .bit) → Performed file s i s′
-    by-value h k v e y w s′ g =
-        let x = told .expr h k in
-        let b : y .bit ≡ byteOf s (x .2 .got) = w .value (x .2) (expression file sh n i place at here c is h k v e) in
-        let t = value-stored (shapeOf sh) s c (x .2 .got) (y .bit) (x .0) (x .1) b in
-        record {
-          what = onExpr c (x .2 .got);
-          is = x .4;
-          gives = g ∙ t ∙ ap (λ z. stored z s (onExpr c (x .2 .got))) (place .shaped);
-        }
+      -- R17, R19: an instruction that stands alone.
+      pub obeys-alone : (c ≡ 10 → ⊥) → (s′ : List ℕ) → s′ ≡ stored (shapeOf sh) s (aloneOf c) → (j : Instr) → j .0 ≡ i + 1
+          → Obeys file s i (On j) s′
+      obeys-alone h = obeys-plain (aloneOf c) (lone .1 (alone-low h))
 
-    -- R18: an instruction with a variable.
-    pub by-variable : (h : 32 ≤ c) (k : c < 48) (b : ℕ) → b ≡ getD file (at + 1) 0
-        → (s′ : List ℕ) → s′ ≡ stored (shapeOf sh) s (onVariable c b) → Performed file s i s′
-    by-variable h k b e s′ g = record {
-      what = onVariable c b;
-      is = with-variable file sh n i place at here c is h k b e;
-      gives = g ∙ ap (λ z. stored z s (onVariable c b)) (place .shaped);
-    }
+    module _ (c p : ℕ) (e : b ≡ Value c p) where
+      abbrev valued : Tells file (vars (shapeOf sh)) n i (instrAt file i) (Value c p)
+      valued = rw e at told
 
-    module _ (h : 48 ≤ c) (l : Instr) (to : l .0 ≡ numberAt 2 file (at + 1)) where
-      gone : instrAt file i ≡ onLabel c (l .0)
-      gone = goes file sh n i place at here c is h l to
+      pub value-codes : (16 ≤ c) × (c < 20)
+      value-codes = (valued .0, valued .1)
+
+      pub value-inside : p ≤ length file
+      value-inside = valued .2
+
+      -- R11: the expression after the code can be worked out.
+      pub readable : (v : ℕ) → v ≡ vars (shapeOf sh) → Readable file s v (p + 64) p
+      readable v k = rw k (record {
+        legible = record { what = valued .3; reads = valued .4; most = most-vars file sh n i place };
+        enough = omega (arith, r .stored .size, ap vars (place .shaped));
+        holds = r .stored .bits;
+      })
+
+      -- R17, R19: an instruction with an expression.
+      pub obeys-value : (v : ℕ) → v ≡ vars (shapeOf sh) → (y : Valued) → Values file s v (p + 64) p y
+          → (s′ : List ℕ) → s′ ≡ onValue (shapeOf sh) s c (y .bit) → (j : Instr) → j .0 ≡ i + 1 → Obeys file s i (On j) s′
+      obeys-value v k y w s′ g =
+          let x = valued .3 .got in
+          let b : y .bit ≡ byteOf s x = (rw k at w) .value (valued .3) (valued .4) in
+          obeys-plain (onExpr c x) (valued .5) s′ (g ∙ value-stored (shapeOf sh) s c x (y .bit) (valued .0) (valued .1) b)
+
+    module _ (c : ℕ) (v : Cell) (e : b ≡ Variable c v) where
+      abbrev varied : Tells file (vars (shapeOf sh)) n i (instrAt file i) (Variable c v)
+      varied = rw e at told
+
+      pub variable-codes : (32 ≤ c) × (c < 37) × (v .0 < vars (shapeOf sh))
+      variable-codes = (varied .0, varied .1, varied .2)
+
+      -- R18: an instruction with a variable.
+      pub obeys-variable : (s′ : List ℕ) → s′ ≡ stored (shapeOf sh) s (onVariable c (v .0)) → (j : Instr) → j .0 ≡ i + 1
+          → Obeys file s i (On j) s′
+      obeys-variable = obeys-plain (onVariable c (v .0)) (varied .3)
+
+    -- R22, R23: a jump or a call.
+    module _ (c : ℕ) (l : Instr) (e : b ≡ Label c l) (next : Instr) (after : next .0 ≡ i + 1) where
+      abbrev led : Tells file (vars (shapeOf sh)) n i (instrAt file i) (Label c l)
+      led = rw e at told
+
+      gone : (k : ℕ) → c ≡ k → instrAt file i ≡ onLabel k (l .0)
+      gone k q = rw q at (led .4)
 
       on : (i < l .0) × (l .0 < length (programIn file .instrs))
-      on =
-          let q = later file sh n i place at here c is h l to in
-          (q .0, omega (arith, q .1, place .count))
+      on = (led .2, omega (arith, led .3, place .count))
 
-      -- R22: a jump, where the machine goes to the label.
-      jumps : ((q : List ℕ) → obey (programIn file .shape) (onLabel c (l .0)) i (bitsOf s) q ≡ due (l .0) (bitsOf s) q)
-          → Obeys file s i (On l) s
-      jumps g = record { leads = (on .0, on .1, λ q. rw gone (g q)); stored = r .stored }
+      next-on : (i < next .0) × (next .0 < length (programIn file .instrs))
+      next-on = (omega arith, omega (arith, on .0, on .1))
 
-      -- R23: a call.
-      calls : ((q : List ℕ) → obey (programIn file .shape) (onLabel c (l .0)) i (bitsOf s) q ≡ due (l .0) (bitsOf s) (suc i ∷ q))
-          → Obeys file s i (Call l) s
-      calls g = record { leads = (on .0, on .1, λ q. rw gone (g q)); stored = r .stored }
+      step-on : next .0 ≡ suc i
+      step-on = omega arith
 
-      pub obeys-jp : c ≡ 48 → Obeys file s i (On l) s
-      obeys-jp e = jumps (λ q. rw e)
+      abbrev v : ℕ
+      v = getD s (flag (shapeOf sh)) 0
 
-      pub obeys-js : c ≡ 50 → Obeys file s i (Call l) s
-      obeys-js e = calls (λ q. rw e)
+      -- The flag is 1 unless its byte is 0.
+      bit-held : getD (bitsOf s) (flag (programIn file .shape)) false ≡ eqb 1 v
+      bit-held = rw (← place .shaped) (getD-bits s (flag (shapeOf sh)))
 
-      module _ (f v : ℕ) (flagged : f ≡ flag (shapeOf sh)) (held : v ≡ getD s f 0) where
-        bit-held : getD (bitsOf s) (flag (programIn file .shape)) false ≡ eqb 1 v
-        bit-held =
-            let q : f ≡ flag (programIn file .shape) = flagged ∙ ap flag (place .shaped) in
-            rw (← q, held) (getD-bits s f)
+      down : eqb v 0 ≡ true → getD (bitsOf s) (flag (programIn file .shape)) false ≡ false
+      down z = bit-held ∙ ne-eqb 1 v (λ q. absurd (omega (arith, eqb-true v 0 z)))
 
-        up : (v ≡ 0 → ⊥) → getD (bitsOf s) (flag (programIn file .shape)) false ≡ true
-        up z = bit-held ∙ eq-eqb 1 v (omega (arith, r .stored .bits f, held))
+      up : eqb v 0 ≡ false → getD (bitsOf s) (flag (programIn file .shape)) false ≡ true
+      up z =
+          let w : v ≡ 0 → ⊥ = eqb-false v 0 z in
+          bit-held ∙ eq-eqb 1 v (omega (arith, r .stored .bits (flag (shapeOf sh))))
 
-        pub obeys-jpc : c ≡ 49 → (v ≡ 0 → ⊥) → Obeys file s i (On l) s
-        obeys-jpc e z = jumps (λ q. rw (e, up z))
+      leads-by : (z : Bool) → eqb v 0 ≡ z → (k : ℕ) → c ≡ 48 + k → k < 4 → Leads (programIn file) s i (jumpBy c v next l) s
+      leads-by z w zero q h = rw q (on .0, on .1, λ t. rw (gone 48 q))
+      leads-by true w (suc zero) q h = rw (q, w) (next-on .0, next-on .1, λ t. rw (gone 49 q, down w, step-on))
+      leads-by false w (suc zero) q h = rw (q, w) (on .0, on .1, λ t. rw (gone 49 q, up w))
+      leads-by z w (suc (suc zero)) q h = rw q (on .0, on .1, λ t. rw (gone 50 q))
+      leads-by true w (suc (suc (suc zero))) q h = rw (q, w) (next-on .0, next-on .1, λ t. rw (gone 51 q, down w, step-on))
+      leads-by false w (suc (suc (suc zero))) q h = rw (q, w) (on .0, on .1, λ t. rw (gone 51 q, up w))
+      leads-by z w (suc (suc (suc (suc k)))) q h = absurd (omega arith)
 
-        pub obeys-jsc : (c ≡ 48 → ⊥) → (c ≡ 49 → ⊥) → (c ≡ 50 → ⊥) → (v ≡ 0 → ⊥) → Obeys file s i (Call l) s
-        obeys-jsc a b d z =
-            let e : c ≡ 51 = omega (arith, told .label h .0) in
-            calls (λ q. rw (e, up z))
-
-        pub obeys-stay : (c ≡ 48 → ⊥) → (c ≡ 50 → ⊥) → v ≡ 0 → (j : Instr) → j .0 ≡ i + 1 → Obeys file s i (On j) s
-        obeys-stay a b z j e =
-            let down : getD (bitsOf s) (flag (programIn file .shape)) false ≡ false = bit-held ∙ ne-eqb 1 v (λ q. absurd (omega arith)) in
-            let next : j .0 ≡ suc i = omega arith in
-            let two : (c ≡ 49) ⊎ (c ≡ 51) = elim (decLt c 50) [
-              | yes p ↦ inl (omega arith)
-              | no p ↦ inr (omega (arith, told .label h .0))
-            ] in
-            let stays : (q : List ℕ) → obey (programIn file .shape) (onLabel c (l .0)) i (bitsOf s) q ≡ due (suc i) (bitsOf s) q
-            = λ q. elim two [
-              | inl p ↦ rw (p, down)
-              | inr p ↦ rw (p, down)
-            ] in
-            record {
-              leads = (omega arith, omega (arith, on .0, on .1), λ q. rw (gone, next) (stays q));
-              stored = r .stored;
-            }
+      pub obeys-jump : (m : Move) → m ≡ jumpBy c v next l → Obeys file s i m s
+      obeys-jump m q = record {
+        leads = rw q (leads-by (eqb v 0) refl (c - 48) (omega (arith, led .0)) (omega (arith, led .0, led .1)));
+        stored = r .stored;
+      }

@@ -1,23 +1,20 @@
 // One instruction of an accepted program, decoded where its entry leads and performed.
-use base::bytes::word;
-use base::kinds::Cell;
 use base::kinds::Instr;
 use base::shape::Shape;
 use instruction::eval::value_at;
-use instruction::perform::flag_op;
-use instruction::perform::stack_op;
+use instruction::perform::alone_op;
 use instruction::perform::value_op;
 use instruction::perform::variable_op;
-use program::body::body_at;
+use program::body::instr_at;
+use reader::body::Body;
 use storage::cell_at;
 use storage::reset;
 ghost use mathlib.Core.Path.{_≡_};
-ghost use Prim.Native.Nat.{_≤_, _<_};
 ghost use lib.ListN.{getD};
-ghost use Rattle.rules.specs.Edition.{old};
-ghost use Rattle.rules.specs.ProgramFile.{bodyAt};
-ghost use Rattle.program.specs.Contracts.{farthest};
-ghost use Rattle.machine.specs.Run.{Runnable, Performed, Obeys};
+ghost use Rattle.rules.specs.Shape.{flag};
+ghost use Rattle.base.specs.Answers.{shapeOf};
+ghost use Rattle.instruction.specs.Perform.{Fitting};
+ghost use Rattle.machine.specs.Run.{Runnable, jumpBy, Obeys};
 
 // Where the machine goes after an instruction.
 pub enum Move {
@@ -29,38 +26,11 @@ pub enum Move {
     End,
 }
 
-// Performs the plain instruction i, whose code stands at a place (R16 to R19).
-fn perform_at(file: &[u8], shape: Shape, n: usize, s: &mut [u8], i: Instr, at: usize)
-    requires { ⌜ Runnable (now file) shape n (now s) (i .0) ⌝ }
-    requires { ⌜ (at ≡ bodyAt old (now file) n (i .0)) × (at < farthest) ⌝ }
-    requires { ⌜ (getD (now file) at 0 ≡ 10 → ⊥) × (getD (now file) at 0 < 48) ⌝ }
-    ensures { λ _. ⌜ Performed (now (file .entry)) (now (s .entry)) (i .0) (now (s .exit)) ⌝ }
+// R22, R23: where the jump or call of a code leads, with the label l; the next instruction is `next`.
+fn jump(shape: Shape, s: &[u8], code: u8, next: Instr, l: Instr) -> Move
+    requires { ⌜ Fitting shape (now s) ⌝ }
+    ensures { λ r. ⌜ r ≡ jumpBy code (getD (now (s .entry)) (flag (shapeOf shape)) 0) next l ⌝ }
 {
-    let code = file[at];
-    if code < 4 {
-        flag_op(shape, s, code);
-        return;
-    }
-    if code < 10 {
-        stack_op(shape, s, code);
-        return;
-    }
-    if code < 32 {
-        let x = value_at(file, s, shape.vars(), at + 65, at + 1);
-        value_op(shape, s, code, x.bit);
-        return;
-    }
-    variable_op(shape, s, code, Cell::of_byte(file[at + 1]));
-}
-
-// Where instruction i, a jump or a call whose code stands at a place, leads (R22, R23).
-fn jump_at(file: &[u8], shape: Shape, n: usize, s: &[u8], i: Instr, at: usize) -> Move
-    requires { ⌜ Runnable (now file) shape n (now s) (i .0) ⌝ }
-    requires { ⌜ (at ≡ bodyAt old (now file) n (i .0)) × (at < farthest) × (48 ≤ getD (now file) at 0) ⌝ }
-    ensures { λ r. ⌜ Obeys (now (file .entry)) (now (s .entry)) (i .0) r (now (s .entry)) ⌝ }
-{
-    let code = file[at];
-    let l = Instr::of_word(word(file, at + 1));
     if code == 48 {
         return Move::On(l);
     }
@@ -68,7 +38,7 @@ fn jump_at(file: &[u8], shape: Shape, n: usize, s: &[u8], i: Instr, at: usize) -
         return Move::Call(l);
     }
     if cell_at(s, shape.flag()) == 0 {
-        return Move::On(Instr(i.0 + 1));
+        return Move::On(next);
     }
     if code == 49 {
         return Move::On(l);
@@ -81,14 +51,25 @@ pub fn obey(file: &[u8], shape: Shape, n: usize, s: &mut [u8], i: Instr) -> Move
     requires { ⌜ Runnable (now file) shape n (now s) (i .0) ⌝ }
     ensures { λ r. ⌜ Obeys (now (file .entry)) (now (s .entry)) (i .0) r (now (s .exit)) ⌝ }
 {
-    let at = body_at(file, n, i);
-    if file[at] == 10 {
-        reset(s, shape.flag());
-        return Move::End;
+    let next = Instr(i.0 + 1);
+    match instr_at(file, n, i) {
+        Body::Alone(code) => {
+            if code == 10 {
+                reset(s, shape.flag());
+                return Move::End;
+            }
+            alone_op(shape, s, code);
+            Move::On(next)
+        }
+        Body::Value(code, at) => {
+            let x = value_at(file, s, shape.vars(), at + 64, at);
+            value_op(shape, s, code, x.bit);
+            Move::On(next)
+        }
+        Body::Variable(code, b) => {
+            variable_op(shape, s, code, b);
+            Move::On(next)
+        }
+        Body::Label(code, l) => jump(shape, s, code, next, l),
     }
-    if file[at] < 48 {
-        perform_at(file, shape, n, s, i, at);
-        return Move::On(Instr(i.0 + 1));
-    }
-    jump_at(file, shape, n, s, i, at)
 }
