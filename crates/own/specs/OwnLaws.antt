@@ -1,35 +1,27 @@
--- The rows and heads that the code makes are an instruction's own set, and the code's bytes tell the instruction.
-use Prim.Native.Nat.{ℕ, _+_, _≤_, _<_}
-use mathlib.Core.Path.{_≡_, refl, sym, ap, _∙_}
+-- The row and heads that the code makes are an instruction's own set.
+use Prim.Native.Nat.{ℕ, _<_}
+use mathlib.Core.Path.{_≡_, sym, ap, _∙_}
 use mathlib.Core.List.{List, map}
 use native.Mathlib.Omega.{arith}
-use native.Mathlib.Decide.{decLt, ℕ-discrete}
+use native.Mathlib.Decide.{ℕ-discrete}
 use lib.ListN.{length, getD, set, length-map, length-set}
 use lib.Seq.{ext-getD, getD-set-same, getD-set-other}
 use Rattle.rules.specs.Lists.{from}
-use Rattle.rules.specs.Edition.{old}
 use Rattle.rules.specs.Shape as R
-use Rattle.rules.specs.Shape.{vars, cells}
-use Rattle.rules.specs.Expr.{Exp, Read, cell}
+use Rattle.rules.specs.Shape.{cells}
+use Rattle.rules.specs.Expr.{cell}
 use Rattle.rules.specs.Instr.{Plain, effect}
 use Rattle.rules.specs.Rows.{rowOfCell}
 use Rattle.laws.specs.Lists.{length-from, getD-map-from}
 use Rattle.laws.specs.Own.{Simple, simpleRow, own-one}
 use Rattle.base.specs.declared.shape.Shape.{Shape}
-use Rattle.base.specs.Answers.{shapeOf}
-use Rattle.program.specs.Codes.{Coded, aloneOf, onExpr, onVariable}
-use Rattle.program.specs.Reading.{Reads, Legible}
-use Rattle.program.specs.Standing.{Standing, programIn, instrAt, deep, most-cells, inside, tells, expression, expression-there, value-codes, with-value, variable-there, variable-codes, with-variable}
 use Rattle.table.specs.declared.Table.{Table}
 use Rattle.rows.specs.declared.adding.Added.{Added}
 use Rattle.own.specs.declared.heads.Change.{Change}
 use Rattle.spell.specs.Made.{Made}
-use Rattle.own.specs.Changes.{Inside, placeOf, mainOf, movedBy, movedHeads, restBy, changed, Changes}
+use Rattle.own.specs.Changes.{placeOf, mainOf, movedBy, movedHeads, restBy, changed, Changes}
 use Rattle.own.specs.ChangeLaws.{put-here, put-other, rest-simple}
-use Rattle.own.specs.Mains.{Given}
-use Rattle.own.specs.Owning.{ownOf, Owning, Owns}
-
--- ---- the own set
+use Rattle.own.specs.Owning.{Owns}
 
 module _ (sh : R.Shape) (p : Plain) (x : Change) (g : Changes sh p x) where
   -- R16: the row of each cell's expression.
@@ -78,69 +70,3 @@ module _ (sh : R.Shape) (p : Plain) (x : Change) (g : Changes sh p x) where
         holds = z .holds;
         same = λ f. e ∙ heads-changed (a .row .0) ∙ rw (g .place, z .row f);
       })
-
--- ---- the instruction
-
-module _ (file : List ℕ) (sh : Shape) (n i at : ℕ) (rows : List ℕ) (s : Table) (made : List ℕ)
-    (g : Owning file sh n i at rows s made) where
-  abbrev stand : Standing file sh n i
-  stand = g .standing
-
-  pub in-shape : Inside sh
-  in-shape = record { deep = deep file sh n i stand; most = most-cells file sh n i stand }
-
-  pub own-given : Given sh rows s
-  own-given = record { inside = in-shape; opened = g .opened }
-
-  pub code-there : at < length file
-  code-there = inside file sh n i stand at (g .here)
-
-  -- The code c that stands there.
-  module _ (c : ℕ) (is : c ≡ getD file at 0) where
-    abbrev told : Coded old file (programIn file .shape) n i at c (instrAt file i)
-    told = tells file sh n i stand at (g .here) c is
-
-    pub code-low : c < 48
-    code-low = omega (arith, g .low)
-
-    -- R37: it stands alone.
-    pub alone-low : c < 16 → c ≤ 10
-    alone-low h = told .lone h .0
-
-    pub alone-is : c < 16 → ownOf (instrAt file i) ≡ aloneOf c
-    alone-is h = elim (decLt c 10) [
-      | yes k ↦ ap ownOf (told .lone h .1 k)
-      | no k ↦
-          let z : c ≡ 10 = omega (arith, told .lone h .0) in
-          ap ownOf (told .lone h .2 z) ∙ rw z refl
-    ]
-
-    -- R37: an expression follows.
-    module _ (h : 16 ≤ c) (k : c < 32) where
-      past : 10 < c
-      past = omega arith
-
-      pub value-low : (16 ≤ c) × (c < 20)
-      value-low = value-codes file sh n i stand at (g .here) c is past k
-
-      pub value-there : Legible file (vars (shapeOf sh)) (at + 65) (at + 1)
-      value-there = expression-there file sh n i stand at (g .here) c is past k (vars (shapeOf sh)) refl
-
-      pub value-own : {after : List ℕ} {z : Table} {heads : List ℕ}
-          → ((x : Read Exp) → Reads file (vars (shapeOf sh)) (at + 65) (at + 1) x
-          → Owns (shapeOf sh) (onExpr c (x .got)) rows s after z heads)
-          → Owns (shapeOf sh) (ownOf (instrAt file i)) rows s after z heads
-      value-own o = rw (with-value file sh n i stand at (g .here) c is past k)
-          (o (told .expr past k .2) (expression file sh n i stand at (g .here) c is past k (vars (shapeOf sh)) refl))
-
-    -- R37: the variable b follows.
-    module _ (h : 32 ≤ c) where
-      pub byte-there : at + 1 < length file
-      byte-there = variable-there file sh n i stand at (g .here) c is h code-low
-
-      module _ (b : ℕ) (e : b ≡ getD file (at + 1) 0) where
-        pub variable-low : (32 ≤ c) × (c < 37) × (b < vars (shapeOf sh))
-        variable-low = variable-codes file sh n i stand at (g .here) c is h code-low b e
-
-        pub variable-is : ownOf (instrAt file i) ≡ onVariable c b
-        variable-is = ap ownOf (with-variable file sh n i stand at (g .here) c is h code-low b e)

@@ -10,42 +10,64 @@ use crate::mains::row_alone;
 use crate::mains::row_value;
 use crate::mains::row_variable;
 use base::kinds::Cell;
-use base::kinds::Instr;
 use base::shape::Shape;
 use table::Table;
+ghost use Prim.Native.Nat.{_+_, _≤_, _<_};
+ghost use lib.ListN.{length};
+ghost use Rattle.rules.specs.Expr.{Exp, Read};
+ghost use Rattle.rules.specs.Shape.{vars};
 ghost use Rattle.base.specs.Answers.{shapeOf};
-ghost use Rattle.program.specs.Standing.{instrAt};
-ghost use Rattle.own.specs.Owning.{ownOf, Owning, Owns};
+ghost use Rattle.program.specs.Codes.{aloneOf, onExpr, onVariable};
+ghost use Rattle.program.specs.Reading.{Reads, Legible};
+ghost use Rattle.own.specs.Owning.{Owning, Owns};
 
-// R37: an instruction's own set over a table: the rows are added, and the heads are made. Instruction i's code stands at a place;
-// END's is INIT's.
-pub fn own_heads(
+// R37: the own set of an instruction that stands alone, over a table: its row is added, and the heads are made. END's is INIT's.
+pub fn own_alone(shape: Shape, code: u8, rows: &mut [u64], table: Table, made: &mut [u16]) -> Table
+    requires { ⌜ Owning shape (now rows) table (now made) ⌝ }
+    requires { ⌜ code ≤ 10 ⌝ }
+    ensures { λ r.
+        ⌜ Owns (shapeOf shape) (aloneOf code) (now (rows .entry)) table (now (rows .exit)) r (now (made .exit)) ⌝ }
+{
+    let a = row_alone(shape, code, rows, table);
+    put_heads(shape, change_alone(shape, code), a.row, made);
+    a.table
+}
+
+// R37: the own set of an instruction with the expression at a place.
+pub fn own_value(
     file: &[u8],
     shape: Shape,
-    n: usize,
-    i: Instr,
+    code: u8,
     at: usize,
     rows: &mut [u64],
     table: Table,
     made: &mut [u16],
 ) -> Table
-    requires { ⌜ Owning (now file) shape n (i .0) at (now rows) table (now made) ⌝ }
+    requires { ⌜ Owning shape (now rows) table (now made) ⌝ }
+    requires { ⌜ (16 ≤ code) × (code < 20) × (at ≤ length (now file)) × Legible (now file) (vars (shapeOf shape)) (at + 64) at ⌝ }
     ensures { λ r.
-        ⌜ Owns (shapeOf shape) (ownOf (instrAt (now (file .entry)) (i .0))) (now (rows .entry)) table (now (rows .exit)) r
-        (now (made .exit)) ⌝ }
+        ⌜ ((x : Read Exp) → Reads (now (file .entry)) (vars (shapeOf shape)) (at + 64) at x
+        → Owns (shapeOf shape) (onExpr code (x .got)) (now (rows .entry)) table (now (rows .exit)) r (now (made .exit))) ⌝ }
 {
-    let code = file[at];
-    if code < 16 {
-        let a = row_alone(shape, code, rows, table);
-        put_heads(shape, change_alone(shape, code), a.row, made);
-        return a.table;
-    }
-    if code < 32 {
-        let a = row_value(file, shape, code, at, rows, table);
-        put_heads(shape, change_value(shape, code), a.row, made);
-        return a.table;
-    }
-    let b = Cell::of_byte(file[at + 1]);
+    let a = row_value(file, shape, code, at, rows, table);
+    put_heads(shape, change_value(shape, code), a.row, made);
+    a.table
+}
+
+// R37: the own set of an instruction with the variable b.
+pub fn own_variable(
+    shape: Shape,
+    code: u8,
+    b: Cell,
+    rows: &mut [u64],
+    table: Table,
+    made: &mut [u16],
+) -> Table
+    requires { ⌜ Owning shape (now rows) table (now made) ⌝ }
+    requires { ⌜ (32 ≤ code) × (code < 37) × (b .0 < vars (shapeOf shape)) ⌝ }
+    ensures { λ r.
+        ⌜ Owns (shapeOf shape) (onVariable code (b .0)) (now (rows .entry)) table (now (rows .exit)) r (now (made .exit)) ⌝ }
+{
     let a = row_variable(shape, code, b, rows, table);
     put_heads(shape, change_variable(shape, code, b), a.row, made);
     a.table

@@ -8,11 +8,11 @@ use rows::node::Node;
 use spell::expression::add_expression;
 use table::Table;
 ghost use Prim.Native.Nat.{_+_, _≤_, _<_};
+ghost use lib.ListN.{length};
 ghost use Rattle.base.specs.Answers.{shapeOf};
 ghost use Rattle.rules.specs.Expr.{Exp, Read};
 ghost use Rattle.rules.specs.Shape.{vars, cells};
 ghost use Rattle.program.specs.Codes.{aloneOf, onExpr, onVariable};
-ghost use Rattle.program.specs.Contracts.{farthest};
 ghost use Rattle.program.specs.Reading.{Reads, Legible};
 ghost use Rattle.spell.specs.Made.{Made};
 ghost use Rattle.own.specs.Changes.{Inside, mainOf};
@@ -58,7 +58,7 @@ pub fn row_alone(shape: Shape, code: u8, rows: &mut [u64], table: Table) -> Adde
     }
 }
 
-// R17, R19: adds the main row of an instruction that takes the expression after its code.
+// R17, R19: adds the main row of an instruction that takes the expression at a place.
 pub fn row_value(
     file: &[u8],
     shape: Shape,
@@ -68,13 +68,13 @@ pub fn row_value(
     table: Table,
 ) -> Added
     requires { ⌜ Given shape (now rows) table ⌝ }
-    requires { ⌜ (16 ≤ code) × (code < 20) × (at < farthest) × Legible (now file) (vars (shapeOf shape)) (at + 65) (at + 1) ⌝ }
+    requires { ⌜ (16 ≤ code) × (code < 20) × (at ≤ length (now file)) × Legible (now file) (vars (shapeOf shape)) (at + 64) at ⌝ }
     ensures { λ r.
-        ⌜ ((x : Read Exp) → Reads (now (file .entry)) (vars (shapeOf shape)) (at + 65) (at + 1) x
+        ⌜ ((x : Read Exp) → Reads (now (file .entry)) (vars (shapeOf shape)) (at + 64) at x
         → Made (cells (shapeOf shape)) (now (rows .entry)) table (mainOf (shapeOf shape) (onExpr code (x .got))) r (now (rows .exit))) ⌝ }
 {
     let x = Row::of_cell(shape.flag());
-    let grown = add_expression(file, shape.vars(), at + 65, at + 1, rows, table);
+    let grown = add_expression(file, shape.vars(), at + 64, at, rows, table);
     let added = grown.added;
     let y = added.row;
     let after = added.table;

@@ -19,10 +19,7 @@ vars-requires : tie.Need-vars-requires
 vars-requires c κs = search needs
 
 add-add-expression : tie.Need-add-add-expression
-add-add-expression c = search needs
-
-add-add-expression-2 : tie.Need-add-add-expression-2
-add-add-expression-2 c = search needs
+add-add-expression c = record { fits = omega (arith, c .before .before .before .before .before .pre .1 .2, c .before .before .before .before .before .good .0 .1) }
 
 add-expression-requires : tie.Need-add-expression-requires
 add-expression-requires c κs =
@@ -103,7 +100,6 @@ row-value-spec =
     of-cell-requires
     vars-requires
     add-add-expression
-    add-add-expression-2
     add-expression-requires
     add-requires
     same-length
