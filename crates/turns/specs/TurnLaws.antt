@@ -5,13 +5,12 @@ use mathlib.Core.Bool.{true, false}
 use mathlib.Core.List.{List, _∷_}
 use native.Mathlib.Omega.{arith}
 use native.Mathlib.Decide.{decLt}
-use lib.ListN.{length, getD}
+use lib.ListN.{length}
 use Rattle.rules.specs.Verdict.{granted}
-use Rattle.rules.specs.Lists.{numberAt}
 use Rattle.rules.specs.Edition.{old}
 use Rattle.rules.specs.Shape.{vars, cells, checkShape}
 use Rattle.rules.specs.Instr.{Plain, INIT, Instr, plain, END}
-use Rattle.rules.specs.ProgramFile.{Program, bodyAt}
+use Rattle.rules.specs.ProgramFile.{Program}
 use Rattle.rules.specs.Sets.{Heads}
 use Rattle.rules.specs.Build as B
 use Rattle.rules.specs.Build.{own, setAt, turnHeads, turn}
@@ -26,12 +25,14 @@ use Rattle.laws.specs.Transfer.{Made, made-from, turn-from}
 use Rattle.base.specs.Answers.{shapeOf}
 use Rattle.base.specs.declared.shape.Shape.{Shape}
 use Rattle.base.specs.declared.kinds.Instr as K
-use Rattle.program.specs.Contracts.{farthest}
-use Rattle.program.specs.Codes.{aloneOf, onVariable, onLabel}
-use Rattle.program.specs.Standing.{programIn, instrAt, Standing, standing-at, formed, deep, tells, with-value, with-variable, goes, later}
+use Rattle.program.specs.Contracts.{instrIn}
+use Rattle.program.specs.Codes.{onLabel, Tells}
+use Rattle.program.specs.Standing.{programIn, instrAt, Standing, standing-at, formed, deep, most-cells, tells}
 use Rattle.table.specs.declared.Table.{Table}
 use Rattle.rows.specs.Making.{Drawn, over-more}
-use Rattle.own.specs.Owning.{ownOf, Owning, Owns}
+use Rattle.own.specs.Owning.{Owning, Owns}
+use Rattle.reader.specs.declared.body.Body.{Body}
+use Rattle.reader.specs.declared.body.Body.the-variants.{Label}
 use Rattle.rewrite.specs.Follow.{Following, Follows}
 use Rattle.turns.specs.Turning.{built, slot, Building, turnAt, Turning, Jumping, Jumps}
 use Rattle.turns.specs.Slots.{slot-inside, slot-length, putAt, length-put, slot-put, slot-kept}
@@ -124,115 +125,96 @@ module _ (file : List ℕ) (sh : Shape) (n i : ℕ) (rows : List ℕ) (s : Table
         room = rw size (w .numbers-lent);
       }
 
-  module _ (at c : ℕ) (here : at ≡ bodyAt old file n i) (is : c ≡ getD file at 0) where
-    -- R10: a code below 48 other than END's is that of a plain instruction.
-    plain-at : c < 48 → (c ≡ 10 → ⊥) → (p : Plain) × (instrAt file i ≡ plain p)
-    plain-at h z =
-        let t = tells file sh n i place at here c is in
-        elim (decLt c 11) [
-          | yes k ↦ (aloneOf c, t .lone (omega arith) .1 (omega arith))
-          | no k ↦ elim (decLt c 32) [
-            | yes m ↦ (_, with-value file sh n i place at here c is (omega arith) m)
-            | no m ↦ (onVariable c (getD file (at + 1) 0), with-variable file sh n i place at here c is (omega arith) h _ refl)
-          ]
-        ]
+  -- What the body of instruction i tells.
+  pub told : {x b : Body} → x ≡ instrIn file n i → x ≡ b → Tells file (vars (shapeOf sh)) n i (instrAt file i) b
+  told {x} {b} e q = tells file sh n i place b (sym q ∙ e)
 
-    fine : (p : Plain) → instrAt file i ≡ plain p → Names (vars (shapeOf sh)) p × (suc i < n)
-    fine p x =
-        let f = rw x at (wf .fine i (omega (arith, w .low, place .count))) in
-        (rw (place .shaped) (f .0), omega (arith, f .1, place .count))
+  fine : (p : Plain) → instrAt file i ≡ plain p → Names (vars (shapeOf sh)) p × (suc i < n)
+  fine p x =
+      let f = rw x at (wf .fine i (omega (arith, w .low, place .count))) in
+      (rw (place .shaped) (f .0), omega (arith, f .1, place .count))
 
-    -- R14: after any instruction but END there is a next one, so T(i+1) is there.
-    next-low : (c ≡ 10 → ⊥) → suc i < n
-    next-low z = elim (decLt c 48) [
-      | yes h ↦ (let q = plain-at h z in fine (q .0) (q .1) .1)
-      | no h ↦ (let t = tells file sh n i place at here c is .label (omega arith) in omega (arith, t .2, t .3))
-    ]
+  -- What cutting out T(l) asks for.
+  cut-in : (l : ℕ) → l < n → (c : ℕ) → c ≡ C → (l ≤ 512) × (c ≤ 217) × (l * c + c ≤ length heads)
+  cut-in l k c q = rw q (omega (arith, place .most), most-cells file sh n i place, slot-ends l k)
 
-    pub next-ends : (c ≡ 10 → ⊥) → (i + 1) * C + C ≤ length heads
-    next-ends z = slot-ends (i + 1) (omega (arith, next-low z))
+  -- R14: after a plain instruction there is a next one.
+  pub plain-next : (p : Plain) → instrAt file i ≡ plain p → (c : ℕ) → c ≡ C → (i + 1 ≤ 512) × (c ≤ 217) × ((i + 1) * c + c ≤ length heads)
+  plain-next p x = cut-in (i + 1) (omega (arith, fine p x .1))
 
-    -- ---- jumps and calls
+  -- ---- the own set, and T(i+1) after it
 
-    module _ (h : 48 ≤ c) (l : K.Instr) (to : l .0 ≡ numberAt 2 file (at + 1)) where
-      on : (i < l .0) × (l .0 < n)
-      on = later file sh n i place at here c is h l to
+  pub owning : Owning sh rows s made
+  owning = record {
+    given = record {
+      inside = record { deep = deep file sh n i place; most = most-cells file sh n i place };
+      opened = record { table = b .tab; canonical = rw (place .shaped) (made-on .canonical); holds = w .built-on .holds };
+    };
+    count = w .count;
+  }
 
-      -- T(l) is there to be copied.
-      pub label-ends : (l .0 ≤ 512) × (l .0 * C + C ≤ length heads)
-      label-ends = (omega (arith, on .1, place .most), slot-ends (l .0) (on .1))
+  module _ (p : Plain) (rows′ : List ℕ) (s′ : Table) (made′ : List ℕ) (g : Owns (shapeOf sh) p rows s rows′ s′ made′) where
+    owned : Drawn rows′ s′ made′ (own (b .tab) (shapeOf sh) p)
+    owned = g (b .tab) (rw (place .shaped) (made-on .canonical)) (w .built-on .holds)
 
-      module _ (y : List ℕ) (e : y ≡ slot C heads (i + 1)) (made′ : List ℕ) (copied : made′ ≡ slot C heads (l .0)) where
-        abbrev X : Heads
-        X = over (b .tab) (setAt b (suc i) (l .0))
+    -- R38: END's turn is the own set of INIT.
+    pub end-turned : p ≡ INIT → instrAt file i ≡ END → Drawn rows′ s′ made′ (turnAt file i)
+    end-turned q x = rw (turn-as END x) (rw q at owned)
 
-        drawn : Drawn rows s made′ X
-        drawn = record { holds = w .built-on .holds; same = λ _. copied ∙ slot-is (l .0) (on .0) (on .1) }
+    module _ (x : instrAt file i ≡ plain p) (y : List ℕ) (e : y ≡ slot C heads (i + 1)) where
+      own-stands : Stands C (own (b .tab) (shapeOf sh) p)
+      own-stands = own-acts (b .tab) (shapeOf sh) (deep file sh n i place) (rw (place .shaped) (made-on .canonical)) p (fine p x .0) .stands
 
-        pub jumping : Jumping (shapeOf sh) c y rows s numbers made′
-        jumping = record {
-          following = followed y e (omega (arith, on .0, on .1)) X (stands-at (l .0) (on .0) (on .1)) (ext-refl (b .tab)) rows s made′
-              drawn (ap length copied ∙ slot-length C heads (l .0) (slot-ends (l .0) (on .1))) refl;
-          codes = (h, tells file sh n i place at here c is .label h .0);
-        }
+      pub own-following : length made′ ≡ length made → length rows′ ≡ length rows → Following (shapeOf sh) y rows′ s′ numbers made′
+      own-following c size =
+          followed y e (fine p x .1) (own (b .tab) (shapeOf sh) p) own-stands (grown-ext (own-grown (b .tab) (shapeOf sh) p)) rows′ s′ made′
+          owned (c ∙ w .count) size
 
-        -- R38: what is left is the turn of instruction i.
-        pub jump-turned : (rows′ : List ℕ) (s′ : Table) (made″ : List ℕ) → Jumps (shapeOf sh) c y rows s made′ rows′ s′ made″
-            → Drawn rows′ s′ made″ (turnAt file i)
-        jump-turned rows′ s′ made″ g =
-            let k : suc i < n = omega (arith, on .0, on .1) in
-            let q = stands-at (suc i) (omega arith) k in
-            rw (turn-as (onLabel c (l .0)) (goes file sh n i place at here c is h l to)
-            ∙ turn-jumped (shapeOf sh) i c (l .0) (b .tab) (setAt b (suc i)) h (jumping .codes .1))
-            (rw (next-is y e k) at (g X drawn (stands-at (l .0) (on .0) (on .1)) (rw (next-is y e k) q)))
+      -- R38: a plain instruction's turn is T(i+1) after its own set.
+      pub plain-turned : (rows″ : List ℕ) (s″ : Table) (made″ : List ℕ) → Follows (shapeOf sh) y rows′ s′ made′ rows″ s″ made″
+          → Drawn rows″ s″ made″ (turnAt file i)
+      plain-turned rows″ s″ made″ f =
+          let m = grown-ext (own-grown (b .tab) (shapeOf sh) p) in
+          let q = stands-ext (own-stands .canonical) m (setAt b (suc i) (suc i)) (stands-at (suc i) (omega arith) (fine p x .1)) in
+          rw (turn-as (plain p) x)
+          (rw (next-is y e (fine p x .1)) at (f (own (b .tab) (shapeOf sh) p) owned own-stands (rw (next-is y e (fine p x .1)) q)))
 
-    -- ---- the own set, and T(i+1) after it
+  -- ---- jumps and calls
 
-    module _ (h : c < 48) where
-      pub owning : at < farthest → Owning file sh n i at rows s made
-      owning near = record {
-        standing = place;
-        here = here;
-        near = near;
-        low = rw is at h;
-        opened = record { table = b .tab; canonical = rw (place .shaped) (made-on .canonical); holds = w .built-on .holds };
-        count = w .count;
+  module _ (c : ℕ) (l : K.Instr) (t : Tells file (vars (shapeOf sh)) n i (instrAt file i) (Label c l)) where
+    -- T(l) is there to be copied, and T(i+1) is there too.
+    pub label-cut : (d : ℕ) → d ≡ C → (l .0 ≤ 512) × (d ≤ 217) × (l .0 * d + d ≤ length heads)
+    label-cut = cut-in (l .0) (t .3)
+
+    pub label-next : (d : ℕ) → d ≡ C → (i + 1 ≤ 512) × (d ≤ 217) × ((i + 1) * d + d ≤ length heads)
+    label-next = cut-in (i + 1) (omega (arith, t .2, t .3))
+
+    pub label-length : length (slot C heads (l .0)) ≡ length made
+    label-length = slot-length C heads (l .0) (slot-ends (l .0) (t .3)) ∙ sym (w .count)
+
+    module _ (y : List ℕ) (e : y ≡ slot C heads (i + 1)) (made′ : List ℕ) (copied : made′ ≡ slot C heads (l .0)) where
+      abbrev X : Heads
+      X = over (b .tab) (setAt b (suc i) (l .0))
+
+      drawn : Drawn rows s made′ X
+      drawn = record { holds = w .built-on .holds; same = λ _. copied ∙ slot-is (l .0) (t .2) (t .3) }
+
+      pub jumping : Jumping (shapeOf sh) c y rows s numbers made′
+      jumping = record {
+        following = followed y e (omega (arith, t .2, t .3)) X (stands-at (l .0) (t .2) (t .3)) (ext-refl (b .tab)) rows s made′
+            drawn (ap length copied ∙ slot-length C heads (l .0) (slot-ends (l .0) (t .3))) refl;
+        codes = (t .0, t .1);
       }
 
-      module _ (rows′ : List ℕ) (s′ : Table) (made′ : List ℕ) (g : Owns (shapeOf sh) (ownOf (instrAt file i)) rows s rows′ s′ made′) where
-        owned : (p : Plain) → ownOf (instrAt file i) ≡ p → Drawn rows′ s′ made′ (own (b .tab) (shapeOf sh) p)
-        owned p q = rw q at (g (b .tab) (rw (place .shaped) (made-on .canonical)) (w .built-on .holds))
-
-        -- R38: END's turn is the own set of INIT.
-        pub end-turned : c ≡ 10 → Drawn rows′ s′ made′ (turnAt file i)
-        end-turned z =
-            let x : instrAt file i ≡ END = tells file sh n i place at here c is .lone (omega arith) .2 z in
-            rw (turn-as END x) (owned INIT (ap ownOf x))
-
-        module _ (z : c ≡ 10 → ⊥) where
-          abbrev p : Plain
-          p = plain-at h z .0
-
-          abbrev x : instrAt file i ≡ plain p
-          x = plain-at h z .1
-
-          own-stands : Stands C (own (b .tab) (shapeOf sh) p)
-          own-stands = own-acts (b .tab) (shapeOf sh) (deep file sh n i place) (rw (place .shaped) (made-on .canonical)) p (fine p x .0) .stands
-
-          pub own-following : (y : List ℕ) → y ≡ slot C heads (i + 1) → length made′ ≡ length made → length rows′ ≡ length rows
-              → Following (shapeOf sh) y rows′ s′ numbers made′
-          own-following y e c size =
-              followed y e (fine p x .1) (own (b .tab) (shapeOf sh) p) own-stands (grown-ext (own-grown (b .tab) (shapeOf sh) p)) rows′ s′ made′
-              (owned p (ap ownOf x)) (c ∙ w .count) size
-
-          -- R38: a plain instruction's turn is T(i+1) after its own set.
-          pub plain-turned : (y : List ℕ) → y ≡ slot C heads (i + 1) → (rows″ : List ℕ) (s″ : Table) (made″ : List ℕ) → Follows (shapeOf sh) y rows′ s′ made′ rows″ s″ made″
-              → Drawn rows″ s″ made″ (turnAt file i)
-          plain-turned y e rows″ s″ made″ f =
-              let m = grown-ext (own-grown (b .tab) (shapeOf sh) p) in
-              let q = stands-ext (own-stands .canonical) m (setAt b (suc i) (suc i)) (stands-at (suc i) (omega arith) (fine p x .1)) in
-              rw (turn-as (plain p) x)
-              (rw (next-is y e (fine p x .1)) at (f (own (b .tab) (shapeOf sh) p) (owned p (ap ownOf x)) own-stands (rw (next-is y e (fine p x .1)) q)))
+      -- R38: what is left is the turn of instruction i.
+      pub jump-turned : (rows′ : List ℕ) (s′ : Table) (made″ : List ℕ) → Jumps (shapeOf sh) c y rows s made′ rows′ s′ made″
+          → Drawn rows′ s′ made″ (turnAt file i)
+      jump-turned rows′ s′ made″ g =
+          let k : suc i < n = omega (arith, t .2, t .3) in
+          let q = stands-at (suc i) (omega arith) k in
+          rw (turn-as (onLabel c (l .0)) (t .4)
+          ∙ turn-jumped (shapeOf sh) i c (l .0) (b .tab) (setAt b (suc i)) (t .0) (t .1))
+          (rw (next-is y e k) at (g X drawn (stands-at (l .0) (t .2) (t .3)) (rw (next-is y e k) q)))
 
   -- ---- the heads in their slot
 

@@ -1,22 +1,20 @@
 // T(i) from the last instruction up: one turn for each instruction, in one table (R38).
-use base::bytes::word;
 use base::kinds::Instr;
 use base::kinds::Row;
 use base::shape::Shape;
 use choice::choose_heads;
-use own::own_heads;
-use program::body::body_at;
+use own::own_alone;
+use own::own_value;
+use own::own_variable;
+use program::body::instr_at;
+use reader::body::Body;
 use rewrite::follow;
 use table::Table;
 ghost use mathlib.Core.Path.{_≡_};
 ghost use Prim.Native.Nat.{_+_, _*_, _<_, _≤_};
-ghost use lib.ListN.{length, getD};
-ghost use Rattle.rules.specs.Edition.{old};
-ghost use Rattle.rules.specs.Shape.{cells};
-ghost use Rattle.rules.specs.ProgramFile.{bodyAt};
+ghost use lib.ListN.{length};
 ghost use Rattle.rules.specs.Room.{room};
 ghost use Rattle.base.specs.Answers.{shapeOf};
-ghost use Rattle.program.specs.Contracts.{farthest};
 ghost use Rattle.rows.specs.Making.{Drawn};
 ghost use Rattle.turns.specs.Turning.{slot, Jumping, Jumps, Turning, turnAt, Building};
 
@@ -38,6 +36,16 @@ fn slot_of(i: Instr, cells: usize) -> usize
     ensures { λ r. ⌜ (r ≡ i .0 * cells) × (r ≤ 111104) ⌝ }
 {
     i.0 as usize * cells
+}
+
+// R38: the heads of T(l).
+fn slot_in<'a>(heads: &'a [u16], l: Instr, cells: usize) -> &'a [u16]
+    requires { ⌜ (l .0 ≤ 512) × (cells ≤ 217) × (l .0 * cells + cells ≤ length (now heads)) ⌝ }
+    ensures { λ r. ⌜ now r ≡ slot cells (now (heads .entry)) (l .0) ⌝ }
+{
+    let from = slot_of(l, cells);
+    let to = from + cells;
+    &heads[from..to]
 }
 
 // R38: a jump or a call by its code, where `made` has T(l), and `next` is T(i+1).
@@ -69,34 +77,6 @@ fn jump_heads(
     choose_heads(f, next, rows, called, made)
 }
 
-// R38: the heads of T(i) for a jump or a call, whose code stands at a place. T(l) is copied, and the code says the rest.
-fn jump_at(
-    file: &[u8],
-    shape: Shape,
-    n: usize,
-    i: Instr,
-    at: usize,
-    next: &[u16],
-    heads: &[u16],
-    rows: &mut [u64],
-    table: Table,
-    numbers: &mut [u16],
-    made: &mut [u16],
-) -> Table
-    requires { ⌜ Turning (now file) shape n (i .0) (now rows) table (length (now numbers)) (now heads) (now made) ⌝ }
-    requires { ⌜ (at ≡ bodyAt old (now file) n (i .0)) × (at < farthest) × (48 ≤ getD (now file) at 0) ⌝ }
-    requires { ⌜ now next ≡ slot (cells (shapeOf shape)) (now heads) (i .0 + 1) ⌝ }
-    ensures { λ r. ⌜ Drawn (now (rows .exit)) r (now (made .exit)) (turnAt (now (file .entry)) (i .0)) ⌝ }
-{
-    let code = file[at];
-    let cells = shape.cells();
-    let l = Instr::of_word(word(file, at + 1));
-    let from = slot_of(l, cells);
-    let to = from + cells;
-    copy_heads(&heads[from..to], made);
-    jump_heads(shape, code, next, rows, table, numbers, made)
-}
-
 // R38: the heads of T(i): an instruction's own set and T(i+1) after it, what its jump or call leads to, or for END the own set alone.
 fn turn_heads(
     file: &[u8],
@@ -112,31 +92,37 @@ fn turn_heads(
     requires { ⌜ Turning (now file) shape n (i .0) (now rows) table (length (now numbers)) (now heads) (now made) ⌝ }
     ensures { λ r. ⌜ Drawn (now (rows .exit)) r (now (made .exit)) (turnAt (now (file .entry)) (i .0)) ⌝ }
 {
-    let at = body_at(file, n, i);
-    if file[at] == 10 {
-        return own_heads(file, shape, n, i, at, rows, table, made);
-    }
     let cells = shape.cells();
-    let from = slot_of(Instr(i.0 + 1), cells);
-    let to = from + cells;
-    let next = &heads[from..to];
-    if 48 <= file[at] {
-        return jump_at(
-            file,
-            shape,
-            n,
-            i,
-            at,
-            next,
-            heads,
-            rows,
-            table,
-            numbers,
-            made,
-        );
+    let next = Instr(i.0 + 1);
+    match instr_at(file, n, i) {
+        Body::Alone(code) => {
+            let own = own_alone(shape, code, rows, table, made);
+            if code == 10 {
+                return own;
+            }
+            follow(shape, slot_in(heads, next, cells), rows, own, numbers, made)
+        }
+        Body::Value(code, at) => {
+            let own = own_value(file, shape, code, at, rows, table, made);
+            follow(shape, slot_in(heads, next, cells), rows, own, numbers, made)
+        }
+        Body::Variable(code, b) => {
+            let own = own_variable(shape, code, b, rows, table, made);
+            follow(shape, slot_in(heads, next, cells), rows, own, numbers, made)
+        }
+        Body::Label(code, l) => {
+            copy_heads(slot_in(heads, l, cells), made);
+            jump_heads(
+                shape,
+                code,
+                slot_in(heads, next, cells),
+                rows,
+                table,
+                numbers,
+                made,
+            )
+        }
     }
-    let own = own_heads(file, shape, n, i, at, rows, table, made);
-    follow(shape, next, rows, own, numbers, made)
 }
 
 // R38: the turn of instruction i, whose heads are put in their place.
