@@ -43,7 +43,7 @@ pub fn append(table: &mut Table, rows: &mut [u64], entry: u64)
 
 // R53, R54: appends a row to the table of that state, and answers the state after.
 pub fn append_to(rows: &mut [u64], table: Table, entry: u64) -> Table
-    ensures { λ r. ⌜ Appends (now (rows .entry)) table entry r (now (rows .exit)) ⌝ }
+    ensures { λ after. ⌜ Appends (now (rows .entry)) table entry after (now (rows .exit)) ⌝ }
 {
     let mut state = table;
     append(&mut state, rows, entry);

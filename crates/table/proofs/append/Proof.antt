@@ -28,10 +28,9 @@ use denote.Laws.{Is, shows}
 use denote.Plain.{uint-makes, uint-vals, uint-tells}
 use denote.Builtin.{u64}
 use denote.Ref.{RefT, MutRef, ptr-vals, mut-tells}
-use denote.Slice.{sliceVal, MutSlice, Room, finally, slice-vals, mut-slice-tells}
+use denote.Slice.{MutSlice, Room, finally, slice-vals, mut-slice-tells}
 use denote.Steps.{only, opens, closes, owned, peeks, heard, nothing}
 use denote.Struct.Steps.{spelt}
-use denote.Struct.Laws as LL
 use denote.Triple.Entry.{onEntry}
 use denote.Triple.Spec.{Meets, tripleOf}
 use denote.Triple.Statement.{Contract, Triple}
@@ -43,9 +42,8 @@ use denote.Exit.{yes}
 use denote.Signature.{plain}
 use Rattle.table.specs.Append.{Appends}
 use Rattle.table.specs.declared.Table.{Table}
-use Rattle.table.proofs.State.{R, mach, table-is}
-use Rattle.table.proofs.Table as T
-use Rattle.table.proofs.Table.Laws as T′
+use Rattle.table.proofs.State.{R, mach, rowsRef, rowsVal}
+use Rattle.table.proofs.State as S
 use Rattle.table.proofs.put_entry as put-entry
 use Rattle.table.proofs.put_entry.Symbol as put-entry-def
 use Rattle.table.proofs.put_entry.Symbol.{name as #table·put-entry}
@@ -64,10 +62,10 @@ PutEntry 𝓤 H A mem run = tripleOf 𝓤 H A put-entry.signature (put-entry.spe
 
 module _ {M : Type 1} (𝓤 : URA M) (H : Heap 𝓤) (A : Atoms 𝓤) (W : Given 𝓤 H A) (at-mem : Memory → SProp 𝓤) (run : Routine → Fun 𝓤) (κ κr : Lft) (bounds : AllOutlive 2 (append.signature .outlives) (κ, (κr, tt))) (q qr : Share) (b o : ℕ) (γ : GName) (h : Table) (br or : ℕ) (γr : GName) (rows : List ℕ) (entry : ℕ) (entry-fits : entry < 2 ^ 64) where
   abbrev x : RefT (List ℕ)
-  x = record { ptr = (br, or); name = γr; now = rows }
+  x = rowsRef br or γr rows
 
   abbrev s : Val
-  s = sliceVal (br, or) (length rows)
+  s = rowsVal br or rows
 
   abbrev Arg : Type 0
   Arg = RefT Table × (RefT (List ℕ) × (ℕ × Unit {0}))
@@ -95,7 +93,7 @@ module _ {M : Type 1} (𝓤 : URA M) (H : Heap 𝓤) (A : Atoms 𝓤) (W : Given
   goes : Is R h (mach h ∷ []) → ent 𝓤 (⋆ 𝓤 H A (tokens ∷ ‵ (MutSlice (named 1) κr u64 .own x (s ∷ [])) ∷ [])) (PutEntry 𝓤 H A at-mem run .pre to)
   goes g =
       qed W (tokens ∷ ‵ (MutSlice (named 1) κr u64 .own x (s ∷ [])) ∷ []) ∵
-      nothing ! $ owned ! u64 (Is u64) (uint-makes 𝓤 H A W w64) entry _ (refl, entry-fits) $ fjoin ! $ owned ! R (Is R) (LL.makes T.the-type T′.the-plain 𝓤 H A) h _ g $ fjoin ! $
+      nothing ! $ owned ! u64 (Is u64) (uint-makes 𝓤 H A W w64) entry _ (refl, entry-fits) $ fjoin ! $ owned ! R (Is R) (S.made 𝓤 H A) h _ g $ fjoin ! $
       move ! (2 ∷ 0 ∷ []) $ fjoin ! $ move ! (1 ∷ 0 ∷ []) $ join ! $ frame ! $ done !
 
   exits : (t : Table) (rows′ : List ℕ) → Appends rows h entry t rows′ → length rows′ ≡ length rows
@@ -115,12 +113,12 @@ module _ {M : Type 1} (𝓤 : URA M) (H : Heap 𝓤) (A : Atoms 𝓤) (W : Given
         pass1 ! (init ! 12 refl (tt, tt)) $ pass1 ! (init ! 10 refl (tt, (tt, (record { fits = room .0 }, tt)))) $ pass1 ! (init ! 8 refl (tt, record { fits = entry-fits })) $ pass0 ! $
         -- the borrow of the state is opened
         move ! (17 ∷ []) $ fsplit ! $ fsplit3 ! $ drop ! $ move ! (19 ∷ []) $ split ! $ move ! (2 ∷ 3 ∷ 0 ∷ []) $
-        opens ! tt R {h = h} b o (λ vs. spelt ! R (Is R) (shows 𝓤 H A R) (LL.vals T.the-type T′.the-laws) (LL.tells T.the-type T′.the-laws) fullShare h vs b o $
+        opens ! tt R {h = h} b o (λ vs. spelt ! R (Is R) (shows 𝓤 H A R) S.vals S.tells fullShare h vs b o $
         move ! (1 ∷ []) $ peeks ! R (Is R) (shows 𝓤 H A R) h (mach h ∷ []) (λ g. move ! (1 ∷ 0 ∷ []) $
         -- [the state's cell; what it owns; the open borrow; obs; auth; the callee's tokens; what the others own; _7 at 7; …; _1 at 19; room for _0 at 21]
         assigns ! (addr ! (from ! (fld ! refl (hop ! (look-in ! 17 (sub ! 0 refl (whole !))) (stop !))))) (from ! (stop !)) (init ! 11 refl (tt, tt)) $
         assigns ! (agg ! (and-then ! (load ! (from ! (stop !)) (look ! 11 refl)) (and-then ! (load ! (from ! (fld ! refl (stop !))) (look-in ! 17 (sub ! 1 refl (whole !)))) (no-more !)))) (from ! (stop !)) (init ! 9 refl (tt, (tt, (record { fits = room .0 }, tt)))) $
-        assigns ! (of-opd ! (load ! (from ! (hop ! (look ! 19 refl) (stop !))) (look-raw ! 0 refl))) (from ! (stop !)) (init ! 7 refl (LL.lawful T.the-type T′.the-laws 𝓤 H A W .typed h _ g .0)) $
+        assigns ! (of-opd ! (load ! (from ! (hop ! (look ! 19 refl) (stop !))) (look-raw ! 0 refl))) (from ! (stop !)) (init ! 7 refl (S.typed 𝓤 H A W h _ g .0)) $
         -- the call
         move ! (6 ∷ []) $ fsplit ! $ move ! (7 ∷ 0 ∷ []) $ use2 W (raw (PutEntry 𝓤 H A at-mem run .pre to)) (goes g) $
         calls-at ! fm (PutEntry 𝓤 H A at-mem run) known to (and-then ! (load ! (from ! (stop !)) (look ! 9 refl)) (and-then ! (load ! (from ! (stop !)) (look ! 7 refl)) (and-then ! (load ! (from ! (stop !)) (look ! 15 refl)) (no-more !)))) (λ w.
@@ -129,11 +127,11 @@ module _ {M : Type 1} (𝓤 : URA M) (H : Heap 𝓤) (A : Atoms 𝓤) (W : Given
         split ! $ move ! (1 ∷ []) $ heard ! (Appends rows h entry t (zs .0)) (λ e. fsplit ! $ fsplit ! $ move ! (1 ∷ []) $ feqL ! (λ same.
         -- [the last rows; …; the tokens and the result; …; the state's cell; what it owned; the open borrow; obs; auth; _7 at 8; …]
         move ! (2 ∷ []) $ split ! $ move ! (1 ∷ []) $ peeks ! R (Is R) (shows 𝓤 H A R) t (w ∷ []) (λ is.
-        land ! (from ! (stop !)) (init ! 16 refl (LL.lawful T.the-type T′.the-laws 𝓤 H A W .typed t _ is .0)) $ rewrite ! 16 (λ (u : Val). ‵ (fat fullShare T′.mir l₄ 0 u)) (ap only (LL.tells T.the-type T′.the-laws t _ is)) refl $
+        land ! (from ! (stop !)) (init ! 16 refl (S.typed 𝓤 H A W t _ is .0)) $ rewrite ! 16 (λ (u : Val). ‵ (fat fullShare S.ty l₄ 0 u)) (ap only (S.tells t _ is)) refl $
         -- [what the result owns; the tokens; the last rows; …; …; the state's cell at 5; …; the open borrow; obs; auth; _7 at 10; …; _4 at 16; …; _1 at 22; room for _0 at 24]: the state is stored, and the borrow is closed
-        assigns ! (of-opd ! (load ! (from ! (stop !)) (look ! 16 refl))) (from ! (hop ! (look ! 22 refl) (stop !))) (store-raw ! 5 refl (LL.lawful T.the-type T′.the-laws 𝓤 H A W .typed t _ (table-is t w is) .0)) $
+        assigns ! (of-opd ! (load ! (from ! (stop !)) (look ! 16 refl))) (from ! (hop ! (look ! 22 refl) (stop !))) (store-raw ! 5 refl (S.typed 𝓤 H A W t _ (S.state-is t w is) .0)) $
         assigns ! (of-opd ! (unit-lit !)) (from ! (stop !)) (init ! 24 refl (tt, tt)) $
-        owned ! R (Is R) (LL.makes T.the-type T′.the-plain 𝓤 H A) t _ (table-is t w is) $ move ! (6 ∷ 0 ∷ 8 ∷ 9 ∷ 10 ∷ []) $ closes ! tt R t (mach t ∷ []) b o $
+        owned ! R (Is R) (S.made 𝓤 H A) t _ (S.state-is t w is) $ move ! (6 ∷ 0 ∷ 8 ∷ 9 ∷ 10 ∷ []) $ closes ! tt R t (mach t ∷ []) b o $
         -- [obs; the borrow; the token; what the result owns; the callee's tokens; the last rows; …; …; …; _7 at 9; …; _0 at 23]
         returns ! (look ! 23 refl) $ forget ! 9 refl $ forget ! 11 refl $ forget ! 13 refl $ forget ! 15 refl $ forget ! 17 refl $ forget ! 19 refl $ forget ! 21 refl $ forget ! 23 refl $
         move ! (23 ∷ 24 ∷ []) $ free1 ! $ move ! (21 ∷ 22 ∷ []) $ free1 ! $ move ! (19 ∷ 20 ∷ []) $ free1 ! $ move ! (17 ∷ 18 ∷ []) $ free1 ! $ move ! (15 ∷ 16 ∷ []) $ free1 ! $ move ! (13 ∷ 14 ∷ []) $ free1 ! $ move ! (11 ∷ 12 ∷ []) $ free1 ! $ move ! (9 ∷ 10 ∷ []) $ free1 ! $ free0 ! $
