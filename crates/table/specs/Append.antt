@@ -1,6 +1,6 @@
 -- Appending a row to a table in a lent slice: the state and the rows after.
 use Prim.Native.Nat.{ℕ, _+_, _≤_, _<_}
-use mathlib.Core.Path.{_≡_, ap, _∙_}
+use mathlib.Core.Path.{_≡_}
 use mathlib.Core.Bool.{true, cond}
 use mathlib.Core.List.{List}
 use lib.ListN.{length, set}
@@ -23,23 +23,22 @@ pub record Appends (rows : List ℕ) (t : Table) (entry : ℕ) (t′ : Table) (r
   pub state : t′ ≡ tableAfter rows t
   pub stored : rows′ ≡ rowsAfter rows t entry
 
-module _ (rows : List ℕ) (t : Table) (entry : ℕ) where
-  -- A row is left.
+-- The state and the rows after, by whether a row is left.
+module _ (rows : List ℕ) (t : Table) where
   module _ (h : t .used < room (length rows)) where
     pub table-more : tableAfter rows t ≡ record { used = t .used + 1; refused = t .refused }
     unfolding tableAfter
     table-more = simp (lt-ltb _ _ h)
 
-    pub rows-more : rowsAfter rows t entry ≡ set rows (t .used) entry
+    pub rows-more : (entry : ℕ) → rowsAfter rows t entry ≡ set rows (t .used) entry
     unfolding rowsAfter
-    rows-more = simp (lt-ltb _ _ h)
+    rows-more entry = simp (lt-ltb _ _ h)
 
-  -- No row is left.
   module _ (h : room (length rows) ≤ t .used) where
     pub table-full : tableAfter rows t ≡ record { used = t .used; refused = true }
     unfolding tableAfter
     table-full = simp (le-ltb _ _ h)
 
-    pub rows-full : rowsAfter rows t entry ≡ rows
+    pub rows-full : (entry : ℕ) → rowsAfter rows t entry ≡ rows
     unfolding rowsAfter
-    rows-full = simp (le-ltb _ _ h)
+    rows-full entry = simp (le-ltb _ _ h)

@@ -1,8 +1,11 @@
 -- `put_entry` meets its contract: a row is left, or none is.
-use denote.Ref.{now}
+use Prim.Native.Nat.{_≤_, _<_}
 use mathlib.Core.Path.{sym}
 use native.Mathlib.Omega.{arith}
+use lib.ListN.{length}
+use denote.Ref.{now}
 use borrow.Author.Needs.{needs}
+use Rattle.rules.specs.Room.{room}
 use Rattle.table.specs.Append.{table-more, rows-more, table-full, rows-full}
 use Rattle.table.proofs.put_entry.Statement.{statement}
 use Rattle.table.proofs.put_entry.Tie as tie
@@ -25,18 +28,14 @@ same-length c = search needs
 returns : tie.Need-returns
 returns c =
     let a = c .before .before .before .args in
-    record {
-      state = sym (table-more (now (a .rows)) (a .table) (a .entry) (omega (arith, c .if1 .taken, c .before .room-in .ensures)));
-      stored = sym (rows-more (now (a .rows)) (a .table) (a .entry) (omega (arith, c .if1 .taken, c .before .room-in .ensures)));
-    }
+    let left : a .table .used < room (length (now (a .rows))) = omega (arith, c .if1 .taken, c .before .room-in .ensures) in
+    record { state = sym (table-more _ _ left); stored = sym (rows-more _ (a .table) left _) }
 
 returns-2 : tie.Need-returns-2
 returns-2 c =
     let a = c .before .before .before .args in
-    record {
-      state = sym (table-full (now (a .rows)) (a .table) (a .entry) (omega (arith, c .if1 .left, c .before .room-in .ensures)));
-      stored = sym (rows-full (now (a .rows)) (a .table) (a .entry) (omega (arith, c .if1 .left, c .before .room-in .ensures)));
-    }
+    let full : room (length (now (a .rows))) ≤ a .table .used = omega (arith, c .if1 .left, c .before .room-in .ensures) in
+    record { state = sym (table-full _ _ full); stored = sym (rows-full _ (a .table) full _) }
 
 pub put-entry-spec : {M : Type 1} → statement M
 put-entry-spec =
