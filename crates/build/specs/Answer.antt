@@ -1,7 +1,6 @@
 -- Building an accepted file or not: a law for each answer.
 use Prim.Native.Nat.{ℕ, _+_, _*_, _≤_, _<_}
 use mathlib.Core.Path.{_≡_, ap, sym, _∙_}
-use mathlib.Core.Bool.{false}
 use mathlib.Core.List.{List, []}
 use native.Mathlib.Omega.{arith}
 use lib.ListN.{length, take, drop, drop-of-length-le}
@@ -15,7 +14,6 @@ use Rattle.rules.specs.Build.{turns, transfer}
 use Rattle.rules.specs.SetFile.{leaves}
 use Rattle.rules.specs.Room.{room}
 use Rattle.rules.specs.Operations.{finish, build}
-use Rattle.laws.specs.Verdict.{no-false}
 use Rattle.laws.specs.ProgramFile.{read-shape}
 use Rattle.laws.specs.Transfer.{transfer-stands}
 use Rattle.base.specs.Answers.{shapeOf, refusedBy}

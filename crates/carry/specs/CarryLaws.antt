@@ -16,7 +16,6 @@ use Rattle.rules.specs.Rows.{Row, leaf, inv, bin, rowAt, add}
 use Rattle.rules.specs.Sets.{Carried, carry, reaches, after}
 use Rattle.rules.specs.SetFile.{TransferSet, leaves, headAt, named}
 use Rattle.rules.specs.Operations.{composed}
-use Rattle.laws.specs.Verdict.{no-false}
 use Rattle.laws.specs.Lists.{map-ext, elem-at}
 use Rattle.laws.specs.Canonical.{Operands, Below, Canonical}
 use Rattle.laws.specs.Rule.{Ready, canonical-ready, canonical-below}
@@ -32,7 +31,7 @@ use Rattle.base.specs.declared.kinds.Row as K
 use Rattle.storage.specs.Moves.{Replacing, mapping-more, mapping-all}
 use Rattle.table.specs.declared.Table.{Table}
 use Rattle.rows.specs.Entries.{nodeRow}
-use Rattle.rows.specs.Table.{Stored, Holds, Filled, Addable, Adds, Gives}
+use Rattle.rows.specs.Table.{Holds, Filled, Addable, Adds, Gives}
 use Rattle.rows.specs.Stored.{stored-length, filled-holds}
 use Rattle.rows.specs.Adding.{holds-add}
 use Rattle.rows.specs.Making.{add-still, open-before}
