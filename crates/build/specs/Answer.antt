@@ -1,7 +1,6 @@
 -- Building an accepted file or not: a law for each answer.
 use Prim.Native.Nat.{ℕ, _+_, _*_, _≤_, _<_}
 use mathlib.Core.Path.{_≡_, ap, sym, _∙_}
-use mathlib.Core.Bool.{false}
 use mathlib.Core.List.{List, []}
 use native.Mathlib.Omega.{arith}
 use lib.ListN.{length, take, drop, drop-of-length-le}
@@ -15,7 +14,6 @@ use Rattle.rules.specs.Build.{turns, transfer}
 use Rattle.rules.specs.SetFile.{leaves}
 use Rattle.rules.specs.Room.{room}
 use Rattle.rules.specs.Operations.{finish, build}
-use Rattle.laws.specs.Verdict.{no-false}
 use Rattle.laws.specs.ProgramFile.{read-shape}
 use Rattle.laws.specs.Transfer.{transfer-stands}
 use Rattle.base.specs.Answers.{shapeOf, refusedBy}
@@ -25,7 +23,8 @@ use Rattle.base.specs.declared.refusal.Refusal.the-variants.{NoRoom}
 use Rattle.program.specs.Contracts.{checkOf}
 use Rattle.program.specs.Standing.{programIn, Standing, formed}
 use Rattle.table.specs.declared.Table.{Table}
-use Rattle.rows.specs.Table.{Stored}
+use Rattle.rows.specs.Table.{Filled}
+use Rattle.rows.specs.Stored.{filled-holds}
 use Rattle.rows.specs.Making.{Drawn}
 use Rattle.writer.specs.Contracts.{Writes, refused-writes}
 use Rattle.writer.specs.Finish.{Finishing, Finishes}
@@ -113,10 +112,10 @@ module _ (file : List ℕ) (rows numbers heads : ℕ) (out : List ℕ) where
 
 -- Before any turn the table is the bare one.
 pub building-start : (file : List ℕ) (sh : Shape) (n rows numbers heads : ℕ) → Ready file sh n rows numbers heads → (held lent : List ℕ)
-    → length lent ≡ heads → (C : ℕ) → C ≡ cells (shapeOf sh) → Stored held (2 + C) (base C)
-    → Building file sh n held (record { used = 2 + C; refused = false }) lent n
+    → length lent ≡ heads → (C : ℕ) → C ≡ cells (shapeOf sh) → (start : Table) → Filled held start (2 + C) (base C)
+    → Building file sh n held start lent n
 unfolding turns
-building-start file sh n rows numbers heads r held lent e C c st =
+building-start file sh n rows numbers heads r held lent e C c start st =
     let P = programIn file in
     let s = r .standing in
     let none : drop n (P .instrs) ≡ [] = drop-of-length-le (P .instrs) {i = n} (omega (arith, s .count)) in
@@ -124,7 +123,7 @@ building-start file sh n rows numbers heads r held lent e C c st =
       standing = s;
       high = omega arith;
       heads-lent = omega (arith, r .heads-lent);
-      holds = record { kept = λ _. rw (none, ← s .shaped, ← c) st; over = λ f. absurd (no-false f) };
+      holds = rw (none, ← s .shaped, ← c) (filled-holds st);
       slots = λ f l h k. absurd (omega arith);
     }
 

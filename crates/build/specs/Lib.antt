@@ -1,4 +1,3 @@
 -- Building: what the operation answers, and the start and the end of the turns.
 pub mod Contract
-pub mod Leaves
 pub mod Answer

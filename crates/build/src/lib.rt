@@ -11,6 +11,7 @@ use program::header::shape_at;
 use rows::node::Node;
 use rows::node::entry_of;
 use table::Table;
+use table::append_to;
 use table::room_in;
 use turns::build_turns;
 use writer::Written;
@@ -24,7 +25,7 @@ ghost use Rattle.rules.specs.ProgramFile.{readProgram};
 ghost use Rattle.rules.specs.Rows.{base};
 ghost use Rattle.rules.specs.Operations.{workAfter};
 ghost use Rattle.program.specs.Standing.{programIn};
-ghost use Rattle.rows.specs.Table.{Stored};
+ghost use Rattle.rows.specs.Table.{Filled};
 ghost use Rattle.writer.specs.Contracts.{Writes};
 ghost use Rattle.build.specs.Contract.{answer, Builds, Ready};
 
@@ -35,17 +36,22 @@ pub enum Built {
     Refused(Refusal),
 }
 
-// R26: the constants and the cells, each in its row.
-fn put_leaves(rows: &mut [u64], cells: usize)
+// R26: the constants and the cells, appended one after another.
+fn put_leaves(rows: &mut [u64], cells: usize) -> Table
     requires { ⌜ (2 + cells ≤ length (now rows)) × (2 + cells ≤ 65535) ⌝ }
-    ensures { λ _. ⌜ Stored (now (rows .exit)) (2 + cells) (base cells) ⌝ }
+    ensures { λ r. ⌜ Filled (now (rows .exit)) r (2 + cells) (base cells) ⌝ }
 {
     let leaves = 2 + cells;
+    let mut table = Table {
+        used: 0,
+        refused: false,
+    };
     let mut i = 0;
     while i < leaves {
-        rows[i] = entry_of(Node::Leaf(Row(i as u16)));
+        table = append_to(rows, table, entry_of(Node::Leaf(Row(i as u16))));
         i += 1;
     }
+    table
 }
 
 // R38, R39: builds all T(i) in one table, and writes the set of T(0).
@@ -64,11 +70,7 @@ fn build_program(
         (length (now (heads .entry))) (now (out .entry))) r (now (out .entry)) (now (out .exit)) ⌝ }
 {
     let cells = shape.cells();
-    put_leaves(rows, cells);
-    let start = Table {
-        used: 2 + cells,
-        refused: false,
-    };
+    let start = put_leaves(rows, cells);
     let table = build_turns(file, shape, n, rows, start, numbers, heads);
     write_finished(shape, &heads[..cells], rows, table, numbers, out)
 }

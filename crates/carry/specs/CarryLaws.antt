@@ -16,7 +16,6 @@ use Rattle.rules.specs.Rows.{Row, leaf, inv, bin, rowAt, add}
 use Rattle.rules.specs.Sets.{Carried, carry, reaches, after}
 use Rattle.rules.specs.SetFile.{TransferSet, leaves, headAt, named}
 use Rattle.rules.specs.Operations.{composed}
-use Rattle.laws.specs.Verdict.{no-false}
 use Rattle.laws.specs.Lists.{map-ext, elem-at}
 use Rattle.laws.specs.Canonical.{Operands, Below, Canonical}
 use Rattle.laws.specs.Rule.{Ready, canonical-ready, canonical-below}
@@ -32,8 +31,9 @@ use Rattle.base.specs.declared.kinds.Row as K
 use Rattle.storage.specs.Moves.{Replacing, mapping-more, mapping-all}
 use Rattle.table.specs.declared.Table.{Table}
 use Rattle.rows.specs.Entries.{nodeRow}
-use Rattle.rows.specs.Table.{Stored, Holds, Addable, Adds, Gives}
-use Rattle.rows.specs.Adding.{holds-add, stored-length}
+use Rattle.rows.specs.Table.{Holds, Filled, Addable, Adds, Gives}
+use Rattle.rows.specs.Stored.{stored-length, filled-holds}
+use Rattle.rows.specs.Adding.{holds-add}
 use Rattle.rows.specs.Making.{add-still, open-before}
 use Rattle.rows.specs.declared.node.Node.{Node}
 use Rattle.rows.specs.declared.node.Node.the-variants.{Leaf, Not, Two}
@@ -308,9 +308,9 @@ module _ (first second : List ℕ) (shape : Shape) (p : Pair first second shape)
   -- ---- the start and the end
 
   -- Before any row of the second set, the table is that of the first.
-  pub carrying-start : (rows numbers : List ℕ) (total : ℕ) → Stored rows total (X .tab) → rowsIn second ≤ length numbers
-      → Carrying first second shape rows (record { used = total; refused = false }) numbers 0
-  carrying-start rows numbers total st long =
+  pub carrying-start : (rows numbers : List ℕ) (s : Table) (total : ℕ) → Filled rows s total (X .tab) → rowsIn second ≤ length numbers
+      → Carrying first second shape rows s numbers 0
+  carrying-start rows numbers s total st long =
       let left = left-carried (X .tab) (X .heads) (Y .tab) (Y .heads) canonY L (omega arith) in
       let z : L + 0 ≡ L = omega arith in
       let tab : M (L + 0) .tab ≡ X .tab = ap (λ k. M k .tab) z ∙ left .tab in
@@ -319,7 +319,7 @@ module _ (first second : List ℕ) (shape : Shape) (p : Pair first second shape)
         low = omega arith;
         long = long;
         few = rw tab (omega arith);
-        holds = record { kept = λ _. rw tab st; over = λ e. absurd (no-false e) };
+        holds = rw tab (filled-holds st);
         noted = λ f i l. absurd (omega arith);
       }
 

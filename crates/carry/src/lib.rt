@@ -9,6 +9,7 @@ use rows::node::entry_of;
 use sets::read::head_in;
 use sets::read::row_in;
 use table::Table;
+use table::append_to;
 ghost use mathlib.Core.Path.{_≡_};
 ghost use Prim.Native.Nat.{_+_, _<_};
 ghost use lib.ListN.{length};
@@ -16,20 +17,25 @@ ghost use Rattle.rules.specs.SetFile.{leaves};
 ghost use Rattle.base.specs.Answers.{shapeOf};
 ghost use Rattle.laws.specs.Canonical.{Operands};
 ghost use Rattle.rows.specs.Entries.{nodeRow};
-ghost use Rattle.rows.specs.Table.{Stored};
+ghost use Rattle.rows.specs.Table.{Filled};
 ghost use Rattle.sets.specs.Spelt.{setIn, rowsIn};
 ghost use Rattle.carry.specs.Carrying.{Copied, Known, newNumber, renumbered, Carrying, Moving, newHeads};
 
-// The rows of a set file, each in its number.
-pub fn copy_rows(file: &[u8], shape: Shape, total: usize, rows: &mut [u64])
+// The rows of a set file, appended one after another.
+pub fn copy_rows(file: &[u8], shape: Shape, total: usize, rows: &mut [u64]) -> Table
     requires { ⌜ Copied (now file) shape total (now rows) ⌝ }
-    ensures { λ _. ⌜ Stored (now (rows .exit)) total (setIn (now (file .entry)) .tab) ⌝ }
+    ensures { λ r. ⌜ Filled (now (rows .exit)) r total (setIn (now (file .entry)) .tab) ⌝ }
 {
+    let mut table = Table {
+        used: 0,
+        refused: false,
+    };
     let mut i = 0;
     while i < total {
-        rows[i] = entry_of(row_in(file, shape, Row(i as u16)));
+        table = append_to(rows, table, entry_of(row_in(file, shape, Row(i as u16))));
         i += 1;
     }
+    table
 }
 
 // R34: the number that row i of the second set gets: a constant its own, a cell the first set's head, an operation what was noted.

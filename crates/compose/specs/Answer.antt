@@ -25,7 +25,7 @@ use Rattle.base.specs.declared.refusal.Refusal.the-variants.{NoRoom, ShapesDiff
 use Rattle.table.specs.declared.Table.{Table}
 use Rattle.rows.specs.Table.{Holds}
 use Rattle.rows.specs.Making.{Drawn}
-use Rattle.rows.specs.Adding.{stored-length}
+use Rattle.rows.specs.Stored.{stored-length}
 use Rattle.writer.specs.Contracts.{Writes, refused-writes}
 use Rattle.writer.specs.Finish.{Finishing, Finishes}
 use Rattle.writer.specs.declared.Written.{Written}

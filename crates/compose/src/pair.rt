@@ -91,11 +91,7 @@ fn compose_pair(
         ⌜ Writes (answer (now (first .entry)) (now (second .entry)) (length (now (rows .entry)))
         (length (now (numbers .entry))) (now (out .entry))) r (now (out .entry)) (now (out .exit)) ⌝ }
 {
-    copy_rows(first, shape, total, rows);
-    let start = Table {
-        used: total,
-        refused: false,
-    };
+    let start = copy_rows(first, shape, total, rows);
     let table = carry_rows(first, second, shape, rows, start, numbers);
     write_composed(first, second, shape, rows, table, numbers, out)
 }

@@ -17,7 +17,7 @@ use Rattle.rules.specs.Operations.{workAfter}
 use Rattle.laws.specs.Canonical.{Below, Canonical}
 use Rattle.laws.specs.Rule.{below-more, canonical-below}
 use Rattle.base.specs.declared.kinds.Row as K
-use Rattle.rows.specs.Adding.{table-length, table-row}
+use Rattle.rows.specs.Stored.{table-length, table-row}
 use Rattle.rows.specs.Entries.{nodeRow, rowOfEntry, tableIn}
 use Rattle.rows.specs.declared.node.Node.{Node}
 use Rattle.rows.specs.declared.node.Node.the-variants.{Leaf, Not, Two}

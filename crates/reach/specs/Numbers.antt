@@ -19,7 +19,7 @@ use Rattle.laws.specs.After.{snoc-last, snoc-old}
 use Rattle.laws.specs.Squeeze.{ren, carry-op, unchanging-at, packed}
 use Rattle.rules.specs.Shape.{Shape, cells}
 use Rattle.rows.specs.Entries.{tableIn}
-use Rattle.rows.specs.Adding.{table-length}
+use Rattle.rows.specs.Stored.{table-length}
 use Rattle.reach.specs.Tabled.{Tabled}
 use Rattle.reach.specs.Marks.{Reached}
 

@@ -19,7 +19,7 @@ use Rattle.base.specs.declared.kinds.Row as K
 use Rattle.table.specs.declared.Table.{Table}
 use Rattle.rows.specs.Entries.{nodeRow, rowOfEntry}
 use Rattle.rows.specs.Table.{Stored, Holds, Addable, Adds, Gives}
-use Rattle.rows.specs.Adding.{stored-length, stored-row}
+use Rattle.rows.specs.Stored.{stored-length, stored-row}
 use Rattle.rows.specs.Making.{over-more}
 use Rattle.rows.specs.declared.node.Node.{Node}
 use Rattle.rows.specs.declared.node.Node.the-variants.{Leaf, Not, Two}

@@ -15,7 +15,7 @@ use Rattle.laws.specs.After.{Stands, over, after-grown}
 use Rattle.table.specs.declared.Table.{Table}
 use Rattle.rows.specs.Entries.{tableIn}
 use Rattle.rows.specs.Making.{Drawn, drawn-over}
-use Rattle.rows.specs.Adding.{stored-length}
+use Rattle.rows.specs.Stored.{stored-length}
 use Rattle.reach.specs.Tabled.{Tabled}
 use Rattle.reach.specs.Marks.{Reached}
 use Rattle.rewrite.specs.Carrying.{Both, Carrying, Start, Carries, Moving}

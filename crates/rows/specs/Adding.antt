@@ -1,13 +1,10 @@
--- Laws of a table in a lent slice: its rows, and adding to it.
+-- Laws of adding to a table in a lent slice.
 use Prim.Native.Nat.{ℕ, zero, suc, _+_, _-_, _/_, _%_, _≤_, _<_, min, max}
 use mathlib.Core.Path.{_≡_, refl, ap, sym, _∙_}
 use mathlib.Core.Bool.{Bool, true, false, cond}
-use mathlib.Core.List.{List, [], _∷_, map, map-append}
+use mathlib.Core.List.{List, map}
 use native.Mathlib.Omega.{arith}
-use native.Mathlib.Decide.{decLt}
-use native.Mathlib.Numerals.{add-one}
-use lib.ListN.{length, getD, take, set, length-append, length-map, length-set, List·getD-map}
-use lib.Seq.{ext-getD, length-take-le, getD-take, take-suc-set, getD-set-same, getD-set-other}
+use lib.ListN.{length, getD}
 use lib.Dec.{eqb}
 use Rattle.rules.specs.Lists.{seek}
 use Rattle.rules.specs.Room.{room}
@@ -20,26 +17,15 @@ use Rattle.laws.specs.Verdict.{no-false}
 use Rattle.laws.specs.Search.{lastOf, last-low, find-from, none-to-last}
 use Rattle.base.specs.declared.kinds.Row as K
 use Rattle.table.specs.declared.Table.{Table}
+use Rattle.table.specs.Append.{Appends}
 use Rattle.rows.specs.declared.node.Node.{Node}
 use Rattle.rows.specs.declared.node.Node.the-variants.{Not, Two}
 use Rattle.rows.specs.declared.rule.Plan as P
 use Rattle.rows.specs.declared.rule.Plan.the-variants.{Have, Make}
 use Rattle.rows.specs.declared.adding.Added.{Added}
-use Rattle.rows.specs.Entries.{nodeRow, planRow, entry, rowOfEntry, tableIn, Narrow, entry-same, entry-back}
+use Rattle.rows.specs.Entries.{nodeRow, planRow, entry, rowOfEntry, Narrow, entry-same}
 use Rattle.rows.specs.Table.{Stored, Holds, Gives, Addable, Settles, Adds}
-
--- ---- the rows of a slice
-
--- Row a of all the numbers of a slice.
-pub slice-row : (rows : List ℕ) (a : ℕ) → rowAt (map rowOfEntry rows) a ≡ rowOfEntry (getD rows a 0)
-unfolding rowOfEntry
-slice-row rows a = List·getD-map rowOfEntry rows a 0
-
-pub table-length : (rows : List ℕ) (used : ℕ) → used ≤ length rows → length (tableIn rows used) ≡ used
-table-length rows used h = length-map (take used rows) rowOfEntry ∙ length-take-le used rows h
-
-pub table-row : (rows : List ℕ) (used i : ℕ) → i < used → rowAt (tableIn rows used) i ≡ rowOfEntry (getD rows i 0)
-table-row rows used i h = slice-row (take used rows) i ∙ ap rowOfEntry (getD-take used rows i 0 h)
+use Rattle.rows.specs.Stored.{slice-row, stored-length, stored-row, holds-append}
 
 -- ---- nodes by their case
 
@@ -121,97 +107,47 @@ seek-ext f g (suc n) i e =
     let rest : seek f n (suc i) ≡ seek g n (suc i) = seek-ext f g n (suc i) (λ k a b. e k (omega arith) (omega arith)) in
     rw (p, rest)
 
--- What a slice of rows stores, row by row.
-module _ {rows : List ℕ} {used : ℕ} {t : List Row} (s : Stored rows used t) where
-  pub stored-length : length t ≡ used
-  stored-length = ap length (sym (s .table)) ∙ table-length rows used (omega (arith, s .held))
-
-  pub stored-row : (i : ℕ) → i < used → rowAt t i ≡ rowOfEntry (getD rows i 0)
-  stored-row i h = ap (λ u. rowAt u i) (sym (s .table)) ∙ table-row rows used i h
-
--- The answer with a row, how many are used, and whether it is refused.
-abbrev added : ℕ → ℕ → Bool → Added
-added row used refused = record { row = record { 0 = row }; table = record { used = used; refused = refused } }
-
 -- The search by numbers, from there on, finds the row that the rule finds.
-module _ (rows : List ℕ) (used : ℕ) (n : Node) (e last at : ℕ) (made : (e ≡ entry (nodeRow n)) × Narrow (nodeRow n))
-    (from : last ≡ lastOf (nodeRow n)) (found : at ≡ seek (λ i. eqb (getD rows i 0) e) (used - (last + 1)) (last + 1)) where
+module _ (rows : List ℕ) (s : Table) (n : Node) (e last at : ℕ) (made : (e ≡ entry (nodeRow n)) × Narrow (nodeRow n))
+    (from : last ≡ lastOf (nodeRow n)) (found : at ≡ seek (λ i. eqb (getD rows i 0) e) (s .used - (last + 1)) (last + 1))
+    (free : s .refused ≡ false) where
   abbrev q : Row
   q = nodeRow n
 
-  found-row : {C : ℕ} {t : List Row} → Canonical C t → Stored rows used t → Ready (length t) q → at ≡ find t q
-  found-row {t = t} w s h =
-      let size = stored-length s in
+  found-row : {C : ℕ} {t : List Row} → Canonical C t → Stored rows (s .used) t → Ready (length t) q → at ≡ find t q
+  found-row {t = t} w st h =
+      let size = stored-length st in
       let low = last-low (length t) q h in
       let next : last + 1 ≡ suc (lastOf q) = omega arith in
-      let same-test : (k : ℕ) → last + 1 ≤ k → k < last + 1 + (used - (last + 1)) → eqb (getD rows k 0) e ≡ same (rowAt t k) q
+      let same-test : (k : ℕ) → last + 1 ≤ k → k < last + 1 + (s .used - (last + 1)) → eqb (getD rows k 0) e ≡ same (rowAt t k) q
       = λ k a b.
-      (let l : k < used = omega (arith, low) in
-      let row = stored-row s k l in
-      let own : getD rows k 0 ≡ entry (rowAt t k) = sym (s .entries k l) ∙ ap entry (sym row) in
+      (let l : k < s .used = omega (arith, low) in
+      let row = stored-row st k l in
+      let own : getD rows k 0 ≡ entry (rowAt t k) = sym (st .entries k l) ∙ ap entry (sym row) in
       rw (own, made .0) (entry-same (rowAt t k) q (rw row (entry-narrow (getD rows k 0))) (made .1))) in
-      found ∙ seek-ext _ (λ i. same (rowAt t i) q) (used - (last + 1)) (last + 1) same-test
+      found ∙ seek-ext _ (λ i. same (rowAt t i) q) (s .used - (last + 1)) (last + 1) same-test
       ∙ rw (next, ← size) (sym (find-from t q (suc (lastOf q)) low (none-to-last t q (length t) h (canonical-below w))))
 
+  -- A table that a state holds stands for it.
+  holding : {t : List Row} → Stored rows (s .used) t → Holds rows s t
+  holding st = record { kept = λ _. st; over = λ f. absurd (no-false (sym free ∙ f)) }
+
   -- The row stands.
-  pub settle-stood : at < used → Settles rows used n (added at used false) rows
-  settle-stood l C t w s h m = go (inserts t q)
+  pub settle-stood : at < s .used → (x : Added) → x .row .0 ≡ at → x .table ≡ s → Settles rows (s .used) n x rows
+  settle-stood l x i z C t w st h m = go (inserts t q)
     where
-      z : at ≡ find t q
-      z = found-row w s h
+      go : Inserts t q → Gives rows x (settle t (make q))
+      go (stood a b c) = record { holds = rw (a, z) (holding st); row = λ _. i ∙ found-row w st h }
+      go (fresh a b c) = absurd (omega (arith, found-row w st h, stored-length st))
 
-      go : Inserts t q → Gives rows (added at used false) (settle t (make q))
-      go (stood a b c) = record { holds = record { kept = λ _. rw a s; over = λ e. absurd (no-false e) }; row = λ _. z }
-      go (fresh a b c) = absurd (omega (arith, z, stored-length s))
-
-  -- The row is not there, and no row is left for it.
-  pub settle-full : used ≤ at → room (length rows) ≤ at → Settles rows used n (added 0 used true) rows
-  settle-full l f C t w s h m = go (inserts t q)
+  -- The row is not there, and is appended, or refused.
+  pub settle-append : s .used ≤ at → (x : Added) (after : List ℕ) → x .row .0 ≡ at → Appends rows s e (x .table) after
+      → Settles rows (s .used) n x after
+  settle-append l x after i p C t w st h m = go (inserts t q)
     where
-      z : at ≡ find t q
-      z = found-row w s h
-
-      go : Inserts t q → Gives rows (added 0 used true) (settle t (make q))
-      go (stood a b c) = absurd (omega (arith, z, stored-length s))
-      go (fresh a b c) = record {
-        holds = record {
-          kept = λ e. absurd (no-false (sym e));
-          over = λ _. omega (arith, z, ap length a, length-append t (q ∷ []), stored-length s, s .held);
-        };
-        row = λ e. absurd (no-false (sym e));
-      }
-
-  -- The row is appended.
-  pub settle-append : used ≤ at → at < room (length rows) → Settles rows used n (added at (at + 1) false) (set rows at e)
-  settle-append l f C t w s h m = go (inserts t q)
-    where
-      z : at ≡ find t q
-      z = found-row w s h
-
-      back : rowOfEntry e ≡ q
-      back = ap rowOfEntry (made .0) ∙ entry-back q (made .1)
-
-      go : Inserts t q → Gives (set rows at e) (added at (at + 1) false) (settle t (make q))
-      go (stood a b c) = absurd (omega (arith, z, stored-length s))
-      go (fresh a b c) =
-          let size = stored-length s in
-          let u : at ≡ used = omega (arith, z) in
-          record {
-            holds = record {
-              kept = λ _. record {
-                held = rw length-set (omega arith);
-                table = rw (a, add-one, take-suc-set rows at e (omega arith), map-append, u, s .table, back);
-                entries = λ i k. elim (decLt i at) [
-                  | yes p ↦ rw (getD-set-other rows at i e 0 (omega arith)) (s .entries i (omega arith))
-                  | no p ↦
-                      let v : i ≡ at = omega arith in
-                      rw (v, getD-set-same rows at e 0 (omega arith), back) (sym (made .0))
-                ];
-              };
-              over = λ e. absurd (no-false e);
-            };
-            row = λ _. z;
-          }
+      go : Inserts t q → Gives after x (settle t (make q))
+      go (stood a b c) = absurd (omega (arith, found-row w st h, stored-length st))
+      go (fresh a b c) = record { holds = rw a (holds-append (holding st) q made p); row = λ _. i ∙ found-row w st h }
 
 -- ---- adding
 
@@ -282,14 +218,3 @@ holds-add {C} {rows} {after} {s} {t} {n} {x} w g a size r h same = go (s .refuse
     go false e =
         let z = same e in
         rw z at (a .adds e C t w (g .kept e) (rw z h))
-
--- A slice stores a table where each of its first numbers is that of a row.
-pub stored-rows : (rows : List ℕ) (used : ℕ) (t : List Row) → length t ≡ used → used ≤ room (length rows)
-    → ((i : ℕ) → i < used → (getD rows i 0 ≡ entry (rowAt t i)) × Narrow (rowAt t i)) → Stored rows used t
-stored-rows rows used t size held is = record {
-  held = held;
-  table = ext-getD (leaf 0) (tableIn rows used) t (table-length rows used (omega arith) ∙ sym size) (λ i l.
-      (let h : i < used = omega (arith, table-length rows used (omega arith)) in
-      table-row rows used i h ∙ ap rowOfEntry (is i h .0) ∙ entry-back (rowAt t i) (is i h .1)));
-  entries = λ i h. rw (is i h .0, entry-back (rowAt t i) (is i h .1));
-}

@@ -2,5 +2,6 @@
 pub mod Entries
 pub mod Plans
 pub mod Table
+pub mod Stored
 pub mod Adding
 pub mod Making

@@ -13,7 +13,7 @@ use Rattle.laws.specs.Canonical.{Canonical}
 use Rattle.laws.specs.Rule.{Ready}
 use Rattle.table.specs.declared.Table.{Table}
 use Rattle.rows.specs.Table.{Holds, Gives, Addable, Adds}
-use Rattle.rows.specs.Adding.{stored-length}
+use Rattle.rows.specs.Stored.{stored-length}
 use Rattle.rows.specs.declared.node.Node.{Node}
 use Rattle.rows.specs.declared.adding.Added.{Added}
 

@@ -25,6 +25,11 @@ pub record Holds (rows : List ℕ) (s : Table) (t : List Row) : Type 0 where
   pub kept : s .refused ≡ false → Stored rows (s .used) t
   pub over : s .refused ≡ true → room (length rows) < length t
 
+-- A state that holds all the rows of t, `used` in number, and is not refused.
+pub record Filled (rows : List ℕ) (s : Table) (used : ℕ) (t : List Row) : Type 0 where
+  pub stored : Stored rows used t
+  pub state : s ≡ record { used = used; refused = false }
+
 -- An operation over rows that are used.
 pub record Addable (rows : List ℕ) (used : ℕ) (r : Row) : Type 0 where
   pub held : used ≤ room (length rows)

@@ -8,6 +8,7 @@ use crate::rule::plan_not;
 use crate::rule::plan_two;
 use base::kinds::Row;
 use table::Table;
+use table::append_to;
 ghost use mathlib.Core.Path.{_≡_};
 ghost use mathlib.Core.Bool.{false};
 ghost use mathlib.Core.List.{map};
@@ -41,7 +42,7 @@ fn plan_node(rows: &[u64], node: Node) -> Plan
 // R30: the first of the used rows from `start` on that is held by that number; or how many are used.
 fn find_entry(rows: &[u64], start: usize, used: usize, entry: u64) -> usize
     requires { ⌜ (start ≤ used) × (used ≤ length (now rows)) ⌝ }
-    ensures { λ r. ⌜ r ≡ seek (λ i. eqb (getD (now (rows .entry)) i 0) entry) (used - start) start ⌝ }
+    ensures { λ r. ⌜ (r ≡ seek (λ i. eqb (getD (now (rows .entry)) i 0) entry) (used - start) start) × (r ≤ used) ⌝ }
 {
     let mut i = start;
     while i < used {
@@ -53,49 +54,24 @@ fn find_entry(rows: &[u64], start: usize, used: usize, entry: u64) -> usize
     i
 }
 
-// R30, R53, R54: the first equal row, or an append if there is room. The search starts after the larger operand, since no equal row
-// stands earlier.
-fn settle(rows: &mut [u64], used: usize, node: Node) -> Added
-    requires { ⌜ Addable (now rows) used (nodeRow node) ⌝ }
-    ensures { λ r. ⌜ Settles (now (rows .entry)) used node r (now (rows .exit)) ⌝ }
+// R30, R53, R54: the first equal row, or an append. The search starts after the larger operand, since no equal row stands earlier.
+fn settle(rows: &mut [u64], table: Table, node: Node) -> Added
+    requires { ⌜ Addable (now rows) (table .used) (nodeRow node) × (table .refused ≡ false) ⌝ }
+    ensures { λ r. ⌜ Settles (now (rows .entry)) (table .used) node r (now (rows .exit)) ⌝ }
 {
+    let used = table.used;
     let entry = entry_of(node);
     let last = last_operand(node);
     let at = find_entry(rows, last.0 as usize + 1, used, entry);
     if at < used {
         return Added {
             row: Row(at as u16),
-            table: Table {
-                used: used,
-                refused: false,
-            },
+            table: table,
         };
     }
-    if rows.len() <= at {
-        return Added {
-            row: Row::FALSE,
-            table: Table {
-                used: used,
-                refused: true,
-            },
-        };
-    }
-    if 65535 <= at {
-        return Added {
-            row: Row::FALSE,
-            table: Table {
-                used: used,
-                refused: true,
-            },
-        };
-    }
-    rows[at] = entry;
     Added {
         row: Row(at as u16),
-        table: Table {
-            used: at + 1,
-            refused: false,
-        },
+        table: append_to(rows, table, entry),
     }
 }
 
@@ -115,6 +91,6 @@ pub fn add(rows: &mut [u64], table: Table, node: Node) -> Added
             row: i,
             table: table,
         },
-        Plan::Make(n) => settle(rows, table.used, n),
+        Plan::Make(n) => settle(rows, table, n),
     }
 }

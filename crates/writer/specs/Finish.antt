@@ -16,7 +16,7 @@ use Rattle.laws.specs.After.{Stands, over}
 use Rattle.base.specs.declared.refusal.Refusal.the-variants.{NoRoom}
 use Rattle.table.specs.declared.Table.{Table}
 use Rattle.rows.specs.Entries.{tableIn}
-use Rattle.rows.specs.Adding.{stored-length}
+use Rattle.rows.specs.Stored.{stored-length}
 use Rattle.rows.specs.Making.{Drawn}
 use Rattle.reach.specs.Tabled.{Tabled}
 use Rattle.writer.specs.declared.Written.{Written}

@@ -29,7 +29,7 @@ use Rattle.writer.specs.Contracts.{Writes}
 use Rattle.reach.specs.Tabled.{Tabled}
 use Rattle.writer.specs.Put.{putAt, newHeads}
 use Rattle.writer.specs.Kept.{kept, keptAt, kept-one, AllFit}
-use Rattle.rows.specs.Adding.{table-length, table-row}
+use Rattle.rows.specs.Stored.{table-length, table-row}
 use Rattle.writer.specs.Write.{set-length, set-put, writes-short, writes-whole}
 use Rattle.reach.specs.Numbers.{Numbering, numbering, carried, Numbered, carried-op, carried-none, numbered}
 

@@ -17,15 +17,12 @@ put-leaves-requires c κs =
     let p = c7 .pre in
     (omega (arith, p .rows-lent, c1 .cells .ensures), omega (arith, most-cells _ _ _ _ (p .standing), c1 .cells .ensures))
 
-add-t14 : tie.Need-add-t14
-add-t14 c = search needs
-
 build-turns-requires : tie.Need-build-turns-requires
 build-turns-requires c κs =
     let c5 = c .before .before .before .before .before in
     let c7 = c5 .before .before in
     let c13 = c7 .before .before .before .before .before .before in (
-      building-start _ _ _ _ _ _ (c13 .pre) _ _ refl _ (c7 .cells .ensures) (c5 .put-leaves .ensures),
+      building-start _ _ _ _ _ _ (c13 .pre) _ _ refl _ (c7 .cells .ensures) _ (c5 .put-leaves .ensures),
       rw (c5 .put-leaves .kept .0) (c13 .pre .numbers-lent),
     )
 
@@ -78,7 +75,6 @@ build-program-spec =
     (tie.spec
     cells-requires
     put-leaves-requires
-    add-t14
     build-turns-requires
     slice-reshare-prefix-write-finished
     slice-aggregate-write-finished

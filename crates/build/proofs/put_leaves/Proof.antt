@@ -1,64 +1,63 @@
-use Rattle.build.specs.Leaves.{Leafing, leafing-none, leafing-more, leafing-all}
-use borrow.Author.Needs.{needs}
-use native.Mathlib.Omega.{arith}
+-- `put_leaves` meets its contract: one constant or cell more a turn.
 use Prim.Native.Nat.{_-_}
+use mathlib.Core.Path.{sym}
+use native.Mathlib.Omega.{arith}
+use borrow.Author.Needs.{needs}
+use Rattle.rules.specs.Rows.{base}
+use Rattle.laws.specs.Rows.{length-base}
+use Rattle.laws.specs.Rule.{base-canonical}
+use Rattle.rows.specs.Stored.{Filling, filling-none, filling-next, filling-all}
 use Rattle.build.proofs.put_leaves.Statement.{statement}
 use Rattle.build.proofs.put_leaves.Tie as tie
 
 abbrev Inv-loop : tie.InvT-loop
-Inv-loop rows₀ cells leaves i₀ rows i = Leafing rows₀ rows i
+Inv-loop rows₀ cells leaves table₀ i₀ rows table i = Filling (base cells) rows₀ rows table i
 
 abbrev μ-loop : tie.MeasureT-loop
-μ-loop rows₀ cells leaves i₀ rows i = leaves - i
+μ-loop rows₀ cells leaves table₀ i₀ rows table i = leaves - i
 
 add-leaves : tie.Need-add-leaves Inv-loop μ-loop
 add-leaves c = search needs
 
 loop-holds : tie.Need-loop-holds Inv-loop μ-loop
-loop-holds c = leafing-none _
+loop-holds c = filling-none _ _
 
-cast-t7 : tie.Need-cast-t7 Inv-loop μ-loop
-cast-t7 c =
-    let c3 = c .before .before .before in
-    omega (arith, c .loop-test .taken, c3 .pre .1)
+cast-t10 : tie.Need-cast-t10 Inv-loop μ-loop
+cast-t10 c =
+    let c4 = c .before .before .before .before in
+    omega (arith, c .before .loop-test .taken, c4 .pre .1)
 
 entry-of-requires : tie.Need-entry-of-requires Inv-loop μ-loop
 entry-of-requires c κs = search needs
 
-mul-rows : tie.Need-mul-rows Inv-loop μ-loop
-mul-rows c = search needs
-
-slice-write-rows : tie.Need-slice-write-rows Inv-loop μ-loop
-slice-write-rows c =
-    let c1 = c .before in
-    let c2 = c1 .before in
-    let c4 = c2 .before .before in
-    omega (arith, c1 .loop-test .taken, c2 .loop .inv .size, c4 .pre .0)
+append-to-requires : tie.Need-append-to-requires Inv-loop μ-loop
+append-to-requires c κs = search needs
 
 add-i : tie.Need-add-i Inv-loop μ-loop
 add-i c =
-    let c1 = c .before in
-    let c4 = c1 .before .before .before in
-    omega (arith, c1 .loop-test .taken, c4 .pre .1)
+    let c5 = c .before .before .before .before .before in
+    let c8 = c5 .before .before .before in
+    omega (arith, c5 .loop-test .taken, c8 .pre .1)
 
 loop-less : tie.Need-loop-less Inv-loop μ-loop
 loop-less c = search needs
 
 loop-again : tie.Need-loop-again Inv-loop μ-loop
 loop-again c =
-    let c1 = c .before in
-    let c2 = c1 .before in
-    let c4 = c2 .before .before in
-    leafing-more (c2 .loop .inv) (omega (arith, c1 .loop-test .taken, c2 .loop .inv .size, c4 .pre .0)) _ (c .entry-of .ensures)
+    let c2 = c .before .before in
+    let c5 = c2 .before .before .before in
+    let C = c5 .before .before .before .args .cells in
+    filling-next (c5 .before .loop .inv) (omega (arith, c5 .loop-test .taken, length-base C))
+    (rw (base-canonical C .leaf-at _ (c5 .loop-test .taken)) (c2 .before .entry-of .ensures)) (c2 .append-to .ensures)
+    (c2 .append-to .kept .0)
 
 same-length : tie.Need-same-length Inv-loop μ-loop
 same-length c = c .before .loop .inv .size
 
 returns : tie.Need-returns Inv-loop μ-loop
 returns c =
-    let c1 = c .before in
-    let c3 = c1 .before .before in
-    leafing-all _ (c1 .loop .inv) (c .loop-test .left) (c3 .pre .0) (c3 .pre .1)
+    let c3 = c .before .before .before in
+    filling-all (c .before .loop .inv) _ (sym (length-base (c3 .args .cells))) (c .loop-test .left) (omega (arith, c3 .pre))
 
 pub put-leaves-spec : {M : Type 1} → statement M
 put-leaves-spec =
@@ -68,10 +67,9 @@ put-leaves-spec =
     μ-loop
     add-leaves
     loop-holds
-    cast-t7
+    cast-t10
     entry-of-requires
-    mul-rows
-    slice-write-rows
+    append-to-requires
     add-i
     loop-less
     loop-again

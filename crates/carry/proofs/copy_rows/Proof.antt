@@ -1,43 +1,38 @@
 -- `copy_rows` meets its contract: one row more a turn.
 use Prim.Native.Nat.{_-_}
-use mathlib.Core.Path.{_≡_, refl}
+use mathlib.Core.Path.{_∙_}
 use native.Mathlib.Omega.{arith}
-use lib.ListN.{length, length-set}
 use borrow.Author.Needs.{needs}
-use Rattle.carry.specs.Copying.{Copying, copying-none, copying-few, copying-inside, copying-more, copying-all}
+use Rattle.rows.specs.Stored.{Filling, filling-none, filling-next, filling-all}
+use Rattle.sets.specs.Spelt.{setIn}
+use Rattle.carry.specs.Copying.{copied-room, copied-few, copied-inside, copied-row}
 use Rattle.carry.proofs.copy_rows.Statement.{statement}
 use Rattle.carry.proofs.copy_rows.Tie as tie
 
 abbrev Inv-loop : tie.InvT-loop
-Inv-loop file shape total rows₀ i₀ rows i = Copying file rows i × (length rows ≡ length rows₀)
+Inv-loop file shape total rows₀ table₀ i₀ rows table i = Filling (setIn file .tab) rows₀ rows table i
 
 abbrev μ-loop : tie.MeasureT-loop
-μ-loop file shape total rows₀ i₀ rows i = total - i
+μ-loop file shape total rows₀ table₀ i₀ rows table i = total - i
 
 loop-holds : tie.Need-loop-holds Inv-loop μ-loop
-loop-holds c = (copying-none _ _, refl)
+loop-holds c = filling-none _ _
 
-cast-t9 : tie.Need-cast-t9 Inv-loop μ-loop
-cast-t9 c =
-    let c4 = c .before .before .before .before in
-    omega (arith, copying-few _ _ _ _ (c4 .pre) _ (c .loop-test .taken))
+cast-t12 : tie.Need-cast-t12 Inv-loop μ-loop
+cast-t12 c =
+    let c5 = c .before .before .before .before .before in
+    omega (arith, copied-few _ _ _ _ (c5 .pre) _ (c .before .loop-test .taken))
 
 row-in-requires : tie.Need-row-in-requires Inv-loop μ-loop
 row-in-requires c κs =
-    let c4 = c .before .before .before .before in
-    copying-inside _ _ _ _ (c4 .pre) _ (c .loop-test .taken)
+    let c5 = c .before .before .before .before .before in
+    copied-inside _ _ _ _ (c5 .pre) _ (c .before .loop-test .taken)
 
 entry-of-requires : tie.Need-entry-of-requires Inv-loop μ-loop
 entry-of-requires c κs = search needs
 
-mul-rows : tie.Need-mul-rows Inv-loop μ-loop
-mul-rows c = search needs
-
-slice-write-rows : tie.Need-slice-write-rows Inv-loop μ-loop
-slice-write-rows c =
-    let c3 = c .before .before .before in
-    let c6 = c3 .before .before .before in
-    omega (arith, c6 .pre .room, c3 .loop .inv .1, c .before .before .loop-test .taken)
+append-to-requires : tie.Need-append-to-requires Inv-loop μ-loop
+append-to-requires c κs = search needs
 
 add-i : tie.Need-add-i Inv-loop μ-loop
 add-i c = search needs
@@ -47,20 +42,21 @@ loop-less c = search needs
 
 loop-again : tie.Need-loop-again Inv-loop μ-loop
 loop-again c =
-    let c3 = c .before .before .before in
-    let c6 = c3 .before .before .before in (
-      copying-more _ _ _ _ (c6 .pre) _ (c .before .before .loop-test .taken) _ (c3 .loop .inv .1) (c3 .loop .inv .0)
-          (c .before .row-in .result) (c .before .row-in .ensures) _ (c .entry-of .ensures),
-      rw length-set (c3 .loop .inv .1),
-    )
+    let c2 = c .before .before in
+    let c4 = c2 .before .before in
+    let c6 = c4 .before .before in
+    let c10 = c6 .before .before .before .before in
+    filling-next (c6 .before .loop .inv) (omega (arith, c6 .loop-test .taken, c10 .pre .whole))
+    (rw (c4 .row-in .ensures ∙ copied-row _ _ _ _ (c10 .pre) _ (c6 .loop-test .taken)) at (c2 .before .entry-of .ensures))
+    (c2 .append-to .ensures) (c2 .append-to .kept .0)
 
 same-length : tie.Need-same-length Inv-loop μ-loop
-same-length c = c .before .loop .inv .1
+same-length c = c .before .loop .inv .size
 
 returns : tie.Need-returns Inv-loop μ-loop
 returns c =
-    let c4 = c .before .before .before .before in
-    copying-all _ _ _ _ (c4 .pre) _ (c .before .loop .inv .1) _ (c .before .loop .inv .0) (c .loop-test .left)
+    let p = c .before .before .before .before .pre in
+    filling-all (c .before .loop .inv) _ (p .whole) (c .loop-test .left) (copied-room _ _ _ _ p)
 
 pub copy-rows-spec : {M : Type 1} → statement M
 copy-rows-spec =
@@ -69,11 +65,10 @@ copy-rows-spec =
     Inv-loop
     μ-loop
     loop-holds
-    cast-t9
+    cast-t12
     row-in-requires
     entry-of-requires
-    mul-rows
-    slice-write-rows
+    append-to-requires
     add-i
     loop-less
     loop-again

@@ -21,7 +21,7 @@ carry-rows-requires : tie.Need-carry-rows-requires
 carry-rows-requires c κs =
     let c4 = c .before .before .before .before in
     let c11 = c4 .before .before .before .before .before .before .before in
-    carrying-start _ _ _ (c11 .pre .pair) _ _ _ (c4 .copy-rows .ensures) (omega (arith, c11 .pre .ready .numbers-lent))
+    carrying-start _ _ _ (c11 .pre .pair) _ _ _ _ (c4 .copy-rows .ensures) (omega (arith, c11 .pre .ready .numbers-lent))
 
 write-composed-requires : tie.Need-write-composed-requires
 write-composed-requires c κs =

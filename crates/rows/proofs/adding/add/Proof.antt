@@ -25,9 +25,11 @@ settle-requires : tie.Need-settle-requires
 settle-requires c κs =
     let c4 = c .before .before .before .before in
     let c6 = c4 .before .before in
-    let c8 = c6 .before .before in
-    make-addable _ _ (c8 .args .node) (c6 .if1 .left) _ (c4 .plan-node .ensures) _ (c .before .before .n .given .1)
-    (c8 .pre (c6 .if1 .left))
+    let c8 = c6 .before .before in (
+      make-addable _ _ (c8 .args .node) (c6 .if1 .left) _ (c4 .plan-node .ensures) _ (c .before .before .n .given .1)
+          (c8 .pre (c6 .if1 .left)),
+      c6 .if1 .left,
+    )
 
 same-length : tie.Need-same-length
 same-length c = search needs

@@ -27,7 +27,7 @@ shared-slice-read-if1 c = search needs
 returns : tie.Need-returns Inv-loop μ-loop
 returns c =
     let c3 = c .before .before .before in
-    searching-hit _ _ (c3 .loop .inv .0) (omega arith) (eq-eqb _ _ (c .if1 .taken))
+    (searching-hit _ _ (c3 .loop .inv .0) (omega arith) (eq-eqb _ _ (c .if1 .taken)), c3 .loop .inv .1)
 
 add-i : tie.Need-add-i Inv-loop μ-loop
 add-i c = search needs
@@ -41,7 +41,7 @@ loop-again c =
     (searching-more _ (c3 .loop .inv .0) (ne-eqb _ _ (c .if1 .left)), search needs)
 
 returns-2 : tie.Need-returns-2 Inv-loop μ-loop
-returns-2 c = searching-end _ _ (c .before .loop .inv .0) (omega arith)
+returns-2 c = (searching-end _ _ (c .before .loop .inv .0) (omega arith), c .before .loop .inv .1)
 
 pub find-entry-spec : {M : Type 1} → statement M
 find-entry-spec =

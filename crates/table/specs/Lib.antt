@@ -1,0 +1,2 @@
+-- Appending a row to a table.
+pub mod Append
