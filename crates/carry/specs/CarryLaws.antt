@@ -308,8 +308,8 @@ module _ (first second : List ℕ) (shape : Shape) (p : Pair first second shape)
   -- ---- the start and the end
 
   -- Before any row of the second set, the table is that of the first.
-  pub carrying-start : (rows numbers : List ℕ) (s : Table) (total : ℕ) → Filled rows s total (X .tab) → rowsIn second ≤ length numbers
-      → Carrying first second shape rows s numbers 0
+  pub carrying-start : (rows numbers : List ℕ) (s : Table) (total : ℕ) → Filled rows s total (X .tab)
+      → rowsIn second ≤ length numbers → Carrying first second shape rows s numbers 0
   carrying-start rows numbers s total st long =
       let left = left-carried (X .tab) (X .heads) (Y .tab) (Y .heads) canonY L (omega arith) in
       let z : L + 0 ≡ L = omega arith in

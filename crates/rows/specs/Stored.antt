@@ -40,8 +40,8 @@ module _ {rows : List ℕ} {used : ℕ} {t : List Row} (s : Stored rows used t) 
 -- ---- appending
 
 -- R53, R54: a row's number appended: the state stands for the table with that row, or is refused.
-module _ {rows rows′ : List ℕ} {s s′ : Table} {t : List Row} {e : ℕ} (g : Holds rows s t) (q : Row) (made : (e ≡ entry q) × Narrow q)
-    (a : Appends rows s e s′ rows′) where
+module _ {rows rows′ : List ℕ} {s s′ : Table} {t : List Row} {e : ℕ} (g : Holds rows s t) (q : Row)
+    (made : (e ≡ entry q) × Narrow q) (a : Appends rows s e s′ rows′) where
   longer : length (t ++ (q ∷ [])) ≡ length t + 1
   longer = length-append t (q ∷ [])
 
@@ -104,8 +104,8 @@ filling-next {t} {i = i} g h made a kept = record {
   holds = rw (add-one, take-suc t i (leaf 0) h) (holds-append (g .holds) (rowAt t i) made a);
 }
 
-pub filling-all : {t : List Row} {rows₀ rows : List ℕ} {s : Table} {i : ℕ} → Filling t rows₀ rows s i → (used : ℕ) → used ≡ length t → used ≤ i
-    → used ≤ room (length rows₀) → Filled rows s used t
+pub filling-all : {t : List Row} {rows₀ rows : List ℕ} {s : Table} {i : ℕ} → Filling t rows₀ rows s i → (used : ℕ)
+    → used ≡ length t → used ≤ i → used ≤ room (length rows₀) → Filled rows s used t
 filling-all {t} {rows₀} {rows} {s} {i} g used e h r = go (s .refused) refl
   where
     w : Holds rows s t

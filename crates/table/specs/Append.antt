@@ -12,7 +12,8 @@ use Rattle.table.specs.declared.Table.{Table}
 -- R53, R54: one row more is used; or the table is refused, where no row is left.
 unfoldable pub tableAfter : List ℕ → Table → Table
 tableAfter rows t =
-    cond (ltb (t .used) (room (length rows))) (record { used = t .used + 1; refused = t .refused }) (record { used = t .used; refused = true })
+    cond (ltb (t .used) (room (length rows))) (record { used = t .used + 1; refused = t .refused })
+    (record { used = t .used; refused = true })
 
 -- R53, R54: the number stands after those that were used; or nothing is stored, where no row is left.
 unfoldable pub rowsAfter : List ℕ → Table → ℕ → List ℕ
