@@ -42,10 +42,7 @@ fn put_leaves(rows: &mut [u64], cells: usize) -> Table
     ensures { λ r. ⌜ Filled (now (rows .exit)) r (2 + cells) (base cells) ⌝ }
 {
     let leaves = 2 + cells;
-    let mut table = Table {
-        used: 0,
-        refused: false,
-    };
+    let mut table = Table::EMPTY;
     let mut i = 0;
     while i < leaves {
         table = append_to(rows, table, entry_of(Node::Leaf(Row(i as u16))));

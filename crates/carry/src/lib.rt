@@ -26,10 +26,7 @@ pub fn copy_rows(file: &[u8], shape: Shape, total: usize, rows: &mut [u64]) -> T
     requires { ⌜ Copied (now file) shape total (now rows) ⌝ }
     ensures { λ r. ⌜ Filled (now (rows .exit)) r total (setIn (now (file .entry)) .tab) ⌝ }
 {
-    let mut table = Table {
-        used: 0,
-        refused: false,
-    };
+    let mut table = Table::EMPTY;
     let mut i = 0;
     while i < total {
         table = append_to(rows, table, entry_of(row_in(file, shape, Row(i as u16))));

@@ -9,6 +9,14 @@ pub struct Table {
     pub refused: bool,
 }
 
+impl Table {
+    // No row is used.
+    pub const EMPTY: Table = Table {
+        used: 0,
+        refused: false,
+    };
+}
+
 // R53: how many of so many rows may be used.
 pub fn room_in(rows: usize) -> usize
     ensures { λ r. ⌜ r ≡ room rows ⌝ }
