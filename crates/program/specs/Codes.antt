@@ -57,6 +57,10 @@ form-kinded (x ∷ xs) k c = go (eqb (x .0) c) refl (form-kinded xs (k .1) c)
     go true e r = rw (← eqb-true (x .0) c e) (k .0)
     go false e r = r
 
+infixr 5 _&_
+_&_ : {A B : Type 0} → A → B → A × B
+x & y = (x, y)
+
 all-kinded : AllKinded codes
 unfolding AllKinded
 all-kinded =
@@ -64,73 +68,14 @@ all-kinded =
     let last : Kinded 10 (alone END) = (omega arith, λ h. absurd (omega arith), λ _. refl) in
     let expr : (c : ℕ) → 16 ≤ c → c < 20 → Kinded c (withExpr (onExpr c)) = λ c h k. (h, k, λ x. refl) in
     let var : (c : ℕ) → 32 ≤ c → c < 37 → Kinded c (withVar (onVariable c)) = λ c h k. (h, k, λ b. refl) in
-    let label : (c : ℕ) → 48 ≤ c → c < 52 → Kinded c (withLabel (onLabel c)) = λ c h k. (h, k, λ l. refl) in (
-      lone 0 (omega arith),
-      (
-        lone 1 (omega arith),
-        (
-          lone 2 (omega arith),
-          (
-            lone 3 (omega arith),
-            (
-              lone 4 (omega arith),
-              (
-                lone 5 (omega arith),
-                (
-                  lone 6 (omega arith),
-                  (
-                    lone 7 (omega arith),
-                    (
-                      lone 8 (omega arith),
-                      (
-                        lone 9 (omega arith),
-                        (
-                          last,
-                          (
-                            expr 16 (omega arith) (omega arith),
-                            (
-                              expr 17 (omega arith) (omega arith),
-                              (
-                                expr 18 (omega arith) (omega arith),
-                                (
-                                  expr 19 (omega arith) (omega arith),
-                                  (
-                                    var 32 (omega arith) (omega arith),
-                                    (
-                                      var 33 (omega arith) (omega arith),
-                                      (
-                                        var 34 (omega arith) (omega arith),
-                                        (
-                                          var 35 (omega arith) (omega arith),
-                                          (
-                                            var 36 (omega arith) (omega arith),
-                                            (
-                                              label 48 (omega arith) (omega arith),
-                                              (
-                                                label 49 (omega arith) (omega arith),
-                                                (label 50 (omega arith) (omega arith), (label 51 (omega arith) (omega arith), tt)),
-                                              ),
-                                            ),
-                                          ),
-                                        ),
-                                      ),
-                                    ),
-                                  ),
-                                ),
-                              ),
-                            ),
-                          ),
-                        ),
-                      ),
-                    ),
-                  ),
-                ),
-              ),
-            ),
-          ),
-        ),
-      ),
-    )
+    let label : (c : ℕ) → 48 ≤ c → c < 52 → Kinded c (withLabel (onLabel c)) = λ c h k. (h, k, λ l. refl) in
+    lone 0 (omega arith) & lone 1 (omega arith) & lone 2 (omega arith) & lone 3 (omega arith) & lone 4 (omega arith)
+    & lone 5 (omega arith) & lone 6 (omega arith) & lone 7 (omega arith) & lone 8 (omega arith) & lone 9 (omega arith) & last
+    & expr 16 (omega arith) (omega arith) & expr 17 (omega arith) (omega arith) & expr 18 (omega arith) (omega arith)
+    & expr 19 (omega arith) (omega arith) & var 32 (omega arith) (omega arith) & var 33 (omega arith) (omega arith)
+    & var 34 (omega arith) (omega arith) & var 35 (omega arith) (omega arith) & var 36 (omega arith) (omega arith)
+    & label 48 (omega arith) (omega arith) & label 49 (omega arith) (omega arith) & label 50 (omega arith) (omega arith)
+    & label 51 (omega arith) (omega arith) & tt
 
 pub kinded : (c : ℕ) → Kinded c (formOf codes c)
 kinded c = form-kinded codes all-kinded c
