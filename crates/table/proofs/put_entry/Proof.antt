@@ -29,13 +29,13 @@ returns : tie.Need-returns
 returns c =
     let a = c .before .before .before .args in
     let left : a .table .used < room (length (now (a .rows))) = omega (arith, c .if1 .taken, c .before .room-in .ensures) in
-    record { state = sym (table-more _ _ left); stored = sym (rows-more _ (a .table) left _) }
+    record { state = sym (table-more (now (a .rows)) (a .table) left); stored = sym (rows-more _ (a .table) left _) }
 
 returns-2 : tie.Need-returns-2
 returns-2 c =
     let a = c .before .before .before .args in
     let full : room (length (now (a .rows))) ≤ a .table .used = omega (arith, c .if1 .left, c .before .room-in .ensures) in
-    record { state = sym (table-full _ _ full); stored = sym (rows-full _ (a .table) full _) }
+    record { state = sym (table-full (now (a .rows)) (a .table) full); stored = sym (rows-full _ (a .table) full _) }
 
 pub put-entry-spec : {M : Type 1} → statement M
 put-entry-spec =
