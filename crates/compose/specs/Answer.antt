@@ -7,13 +7,12 @@ use native.Mathlib.Omega.{arith}
 use lib.ListN.{length}
 use lib.Dec.{eqb}
 use borrow.Author.Tests.{lt-ltb, le-ltb, eq-eqb, not-false}
-use Rattle.rules.specs.Verdict.{Verdict, granted, refused}
+use Rattle.rules.specs.Verdict.{Verdict, granted}
 use Rattle.rules.specs.Edition.{old}
 use Rattle.rules.specs.Shape.{cells, shapeAt, checkShape}
 use Rattle.rules.specs.Shape as R
 use Rattle.rules.specs.Sets.{Heads}
 use Rattle.rules.specs.SetFile.{TransferSet, leaves, readSet}
-use Rattle.rules.specs.Room.{room}
 use Rattle.rules.specs.Operations.{composed, finish, sameShape, compose, neither, blamed}
 use Rattle.laws.specs.Shape.{shape-limits}
 use Rattle.laws.specs.After.{Stands, after-acts}

@@ -12,7 +12,6 @@ use writer::write_finished;
 ghost use mathlib.Core.Path.{_≡_};
 ghost use lib.ListN.{length};
 ghost use Rattle.rules.specs.Shape.{cells};
-ghost use Rattle.rules.specs.Room.{room};
 ghost use Rattle.rules.specs.Operations.{sameShape};
 ghost use Rattle.base.specs.Answers.{shapeOf};
 ghost use Rattle.writer.specs.Contracts.{Writes};

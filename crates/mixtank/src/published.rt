@@ -8,7 +8,7 @@ use storage::put_cell;
 use storage::reset;
 ghost use mathlib.Core.Path.{_≡_};
 ghost use lib.ListN.{length};
-ghost use Rattle.mixtank.specs.Published.{not, tankOf, newPmp, newSwr, newErru, newErrd, newClredge};
+ghost use Rattle.mixtank.specs.Published.{tankOf, newPmp, newSwr, newErru, newErrd, newClredge};
 ghost use Rattle.mixtank.specs.Published.{outputsPut, memoryPut, published};
 
 // The variables, a bit each, in the order of their numbers: 7 inputs, 4 outputs, 2 memory bits.

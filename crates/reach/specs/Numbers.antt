@@ -10,7 +10,7 @@ use lib.ListN.{length, getD, set, length-set, length-append}
 use lib.Seq.{getD-set-same, getD-set-other}
 use lib.Dec.{eqb, ltb}
 use borrow.Author.Tests.{eq-eqb, ne-eqb, eqb-true, lt-ltb, le-ltb, ltb-false}
-use Rattle.rules.specs.Rows.{Row, leaf, base, rowAt}
+use Rattle.rules.specs.Rows.{Row, base, rowAt}
 use Rattle.rules.specs.Sets.{reaches, unchanging, Carried, carryRow, carry, append}
 use Rattle.laws.specs.Canonical.{Canonical}
 use Rattle.laws.specs.Rule.{canonical-ready}

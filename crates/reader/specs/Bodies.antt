@@ -78,17 +78,17 @@ module _ (file : List ℕ) (p c : ℕ) (is : c ≡ getD file p 0) where
   run-is k from n t l h = body-is k (in-run k from n c t l h)
 
 -- What a body has of the bytes at p.
-abbrev pub Stands : List ℕ → ℕ → Body → Type 0
-Stands file p (Alone c) = c ≡ getD file p 0
-Stands file p (Value c q) = (c ≡ getD file p 0) × (q ≡ p + 1)
-Stands file p (Variable c b) = (c ≡ getD file p 0) × (b .0 ≡ getD file (p + 1) 0)
-Stands file p (Label c l) = (c ≡ getD file p 0) × (l .0 ≡ numberAt 2 file (p + 1))
+abbrev pub Matches : List ℕ → ℕ → Body → Type 0
+Matches file p (Alone c) = c ≡ getD file p 0
+Matches file p (Value c q) = (c ≡ getD file p 0) × (q ≡ p + 1)
+Matches file p (Variable c b) = (c ≡ getD file p 0) × (b .0 ≡ getD file (p + 1) 0)
+Matches file p (Label c l) = (c ≡ getD file p 0) × (l .0 ≡ numberAt 2 file (p + 1))
 
-pub body-stands : (file : List ℕ) (p : ℕ) (b : Body) → b ≡ bodyIn file p → Stands file p b
+pub body-matches : (file : List ℕ) (p : ℕ) (b : Body) → b ≡ bodyIn file p → Matches file p b
 unfolding bodyIn
-body-stands file p b e = rw e (go (formOf codes (getD file p 0)))
+body-matches file p b e = rw e (go (formOf codes (getD file p 0)))
   where
-    go : (m : Form) → Stands file p (taken m file p)
+    go : (m : Form) → Matches file p (taken m file p)
     go (alone x) = refl
     go (withExpr g) = (refl, refl)
     go (withVar g) = (refl, refl)

@@ -4,7 +4,7 @@ use base::kinds::Cell;
 use base::kinds::Instr;
 ghost use mathlib.Core.Path.{_≡_};
 ghost use Prim.Native.Nat.{_<_};
-ghost use lib.ListN.{length, getD};
+ghost use lib.ListN.{getD};
 ghost use Rattle.rules.specs.Lists.{numberAt};
 ghost use Rattle.reader.specs.Bodies.{bodyIn};
 

@@ -9,7 +9,6 @@ use base::kinds::Row;
 use base::refusal::Refusal;
 use base::refusal::number_refusal;
 use rows::node::Node;
-ghost use mathlib.Core.Path.{_≡_};
 ghost use mathlib.Core.Bool.{cond};
 ghost use mathlib.Core.List.{_∷_};
 ghost use Rattle.rules.specs.Text.{ascii};

@@ -2,7 +2,7 @@
 use mathlib.Core.Path.{sym, _∙_}
 use native.Mathlib.Omega.{arith}
 use Rattle.base.specs.Answers.{shapeOf}
-use Rattle.reader.specs.Bodies.{body-stands}
+use Rattle.reader.specs.Bodies.{body-matches}
 use Rattle.program.specs.Body.{found}
 use borrow.Author.Needs.{needs}
 use Rattle.program.proofs.body.read_body.Statement.{statement}
@@ -36,7 +36,7 @@ add-check-variable : tie.Need-add-check-variable
 add-check-variable c = search needs
 
 check-variable-requires : tie.Need-check-variable-requires
-check-variable-requires c κs = body-stands _ _ _ (sym (c .before .b .given .1) ∙ c .before .before .before .read-at .ensures) .1
+check-variable-requires c κs = body-matches _ _ _ (sym (c .before .b .given .1) ∙ c .before .before .before .read-at .ensures) .1
 
 enum-known-l : tie.Need-enum-known-l
 enum-known-l c = search needs
@@ -45,7 +45,7 @@ add-check-label : tie.Need-add-check-label
 add-check-label c = search needs
 
 check-label-requires : tie.Need-check-label-requires
-check-label-requires c κs = (body-stands _ _ _ (sym (c .before .l .given .1) ∙ c .before .before .before .read-at .ensures) .1, omega (arith, c .before .before .before .before .before .pre))
+check-label-requires c κs = (body-matches _ _ _ (sym (c .before .l .given .1) ∙ c .before .before .before .read-at .ensures) .1, omega (arith, c .before .before .before .before .before .pre))
 
 returns : tie.Need-returns
 returns c = let a = c .before .before .before .before .before .before .args in found (a .file .now) (shapeOf (a .shape)) (a .n) (a .i .0) (a .at) _ (sym (c .before .before .code .given .1) ∙ c .before .before .before .before .read-at .ensures) (c .check-alone .ensures)
@@ -54,7 +54,7 @@ returns-2 : tie.Need-returns-2
 returns-2 c =
     let a = c .before .before .before .before .before .before .before .args in
     let e = sym (c .before .before .before .from .given .1) ∙ c .before .before .before .before .before .read-at .ensures in
-    let q = body-stands _ _ _ e .1 in
+    let q = body-matches _ _ _ e .1 in
     found (a .file .now) (shapeOf (a .shape)) (a .n) (a .i .0) (a .at) _ e
     ((rw (c .before .vars .ensures) at (c .read-expr .ensures)) .is 64 (omega arith))
 
