@@ -1,5 +1,6 @@
 // The value of an expression on a storage.
 use base::bytes::wide;
+use reader::read_at;
 use storage::bits::both;
 use storage::bits::either;
 ghost use mathlib.Core.Path.{_≡_};
@@ -16,7 +17,7 @@ pub fn value_at(file: &[u8], s: &[u8], vars: usize, stop: usize, at: usize) -> V
     requires { ⌜ Readable (now file) (now s) vars stop at ⌝ }
     ensures { λ r. ⌜ Values (now (file .entry)) (now (s .entry)) vars stop at r ⌝ }
 {
-    let b = file[at];
+    let b = read_at(file, at);
     if b < 250 {
         return Valued {
             bit: s[wide(b)],

@@ -7,7 +7,7 @@ use base::kinds::Instr;
 use base::refusal::Refusal;
 use base::shape::Shape;
 use reader::body::Body;
-use reader::read_at;
+use reader::body::decode;
 ghost use mathlib.Core.Path.{_≡_};
 ghost use mathlib.Core.Bool.{_&&_};
 ghost use Prim.Native.Nat.{_≤_, _<_};
@@ -77,7 +77,7 @@ pub fn read_body(file: &[u8], shape: Shape, n: usize, i: Instr, at: usize) -> Wa
     requires { ⌜ at < farthest ⌝ }
     ensures { λ r. ⌜ walkedVerdict r ≡ ends (bodyRead (now (file .entry)) (shapeOf shape) n (i .0) at) ⌝ }
 {
-    match read_at(file, at) {
+    match decode(file, at) {
         Body::Alone(code) => check_alone(code, at),
         Body::Value(_, from) => read_expr(file, shape.vars(), at + 65, from),
         Body::Variable(_, b) => check_variable(file, shape, b, at + 1),
@@ -98,5 +98,5 @@ pub fn instr_at(file: &[u8], n: usize, i: Instr) -> Body
     requires { ⌜ (i .0 < n) × (n ≤ 512) × (entryAt old n ≤ length (now file)) ⌝ }
     ensures { λ r. ⌜ r ≡ instrIn (now (file .entry)) n (i .0) ⌝ }
 {
-    read_at(file, body_at(file, n, i))
+    decode(file, body_at(file, n, i))
 }

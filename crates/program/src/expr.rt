@@ -1,5 +1,6 @@
 // The expressions of a program file (R11).
 use base::refusal::Refusal;
+use reader::read_at;
 ghost use mathlib.Core.Path.{_≡_};
 ghost use Rattle.rules.specs.Expr.{announced};
 ghost use Rattle.program.specs.Contracts.{operandsOf};
@@ -52,7 +53,7 @@ pub fn read_expr(file: &[u8], vars: usize, stop: usize, at: usize) -> Walked
     if file.len() <= at {
         return Walked::Refused(Refusal::EndsEarly(file.len()));
     }
-    match announce(vars, file[at]) {
+    match announce(vars, read_at(file, at)) {
         Operands::Zero => Walked::To(at + 1),
         Operands::One => read_expr(file, vars, stop, at + 1),
         Operands::Two => match read_expr(file, vars, stop, at + 1) {

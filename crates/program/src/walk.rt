@@ -9,7 +9,7 @@ use base::kinds::Instr;
 use base::refusal::Refusal;
 use base::shape::Shape;
 use reader::body::Body;
-use reader::read_at;
+use reader::body::decode;
 ghost use mathlib.Core.Path.{_≡_};
 ghost use Prim.Native.Nat.{_≤_, _<_};
 ghost use Rattle.rules.specs.Edition.{old};
@@ -75,7 +75,7 @@ fn check_end(file: &[u8], n: usize, at: usize) -> Checked
         return Checked::Refused(Refusal::Misplaced(at));
     }
     let last = body_at(file, n, Instr::of_word(n - 1));
-    if !is_end(read_at(file, last)) {
+    if !is_end(decode(file, last)) {
         return Checked::Refused(Refusal::LastNotEnd(last));
     }
     Checked::Granted

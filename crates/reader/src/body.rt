@@ -1,10 +1,10 @@
 // The body of an instruction, taken apart (R10).
+use crate::read_at;
 use base::bytes::wide;
 use base::kinds::Cell;
 use base::kinds::Instr;
 ghost use mathlib.Core.Path.{_≡_};
 ghost use Prim.Native.Nat.{_<_};
-ghost use lib.ListN.{getD};
 ghost use Rattle.rules.specs.Lists.{numberAt};
 ghost use Rattle.reader.specs.Bodies.{bodyIn};
 
@@ -20,19 +20,12 @@ pub enum Body {
     Label(u8, Instr),
 }
 
-// The byte at a place, and 0 past the end.
-fn byte_in(file: &[u8], at: usize) -> u8
-    ensures { λ r. ⌜ r ≡ getD (now (file .entry)) at 0 ⌝ }
-{
-    if at < file.len() { file[at] } else { 0 }
-}
-
 // R5: the two-byte number at a place, and 0 for a byte past the end.
 fn word_in(file: &[u8], at: usize) -> usize
     requires { ⌜ at < 18446744073709551615 ⌝ }
     ensures { λ r. ⌜ (r ≡ numberAt 2 (now (file .entry)) at) × (r < 65536) ⌝ }
 {
-    wide(byte_in(file, at)) + 256 * wide(byte_in(file, at + 1))
+    wide(read_at(file, at)) + 256 * wide(read_at(file, at + 1))
 }
 
 // R10: the body at a place of a file.
@@ -42,10 +35,10 @@ pub fn decode(file: &[u8], at: usize) -> Body
     if file.len() <= at {
         return Body::Alone(0);
     }
-    let code = byte_in(file, at);
+    let code = read_at(file, at);
     match wide(code) {
         16..=19 => Body::Value(code, at + 1),
-        32..=36 => Body::Variable(code, Cell::of_byte(byte_in(file, at + 1))),
+        32..=36 => Body::Variable(code, Cell::of_byte(read_at(file, at + 1))),
         48..=51 => Body::Label(code, Instr::of_word(word_in(file, at + 1))),
         _ => Body::Alone(code),
     }

@@ -1,6 +1,7 @@
 // The rows of an expression, added to a table by the rule (R11, R37).
 use base::kinds::Cell;
 use base::kinds::Row;
+use reader::read_at;
 use rows::adding::Added;
 use rows::adding::add;
 use rows::node::Node;
@@ -39,7 +40,7 @@ pub fn add_expression(
     requires { ⌜ Spelling (now file) vars stop at (now rows) table ⌝ }
     ensures { λ r. ⌜ Spells (now (file .entry)) vars stop at (now (rows .entry)) table r (now (rows .exit)) ⌝ }
 {
-    let b = file[at];
+    let b = read_at(file, at);
     if b < 252 {
         return Grown {
             added: Added {

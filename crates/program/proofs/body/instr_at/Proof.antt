@@ -8,11 +8,11 @@ use Rattle.program.proofs.body.instr_at.Tie as tie
 body-at-requires : tie.Need-body-at-requires
 body-at-requires c κs = search needs
 
-read-at-requires : tie.Need-read-at-requires
-read-at-requires c κs = search needs
+decode-requires : tie.Need-decode-requires
+decode-requires c κs = search needs
 
 returns : tie.Need-returns
-returns c = c .read-at .ensures ∙ ap (bodyIn _) (c .before .body-at .ensures .0)
+returns c = c .decode .ensures ∙ ap (bodyIn _) (c .before .body-at .ensures .0)
 
 pub instr-at-spec : {M : Type 1} → statement M
-instr-at-spec = tie.close (tie.spec body-at-requires read-at-requires returns)
+instr-at-spec = tie.close (tie.spec body-at-requires decode-requires returns)

@@ -19,17 +19,17 @@ of-word-requires c κs = search needs
 body-at-requires : tie.Need-body-at-requires
 body-at-requires c κs = search needs
 
-read-at-requires : tie.Need-read-at-requires
-read-at-requires c κs = search needs
+decode-requires : tie.Need-decode-requires
+decode-requires c κs = search needs
 
 is-end-requires : tie.Need-is-end-requires
 is-end-requires c κs = search needs
 
 returns-2 : tie.Need-returns-2
-returns-2 c = closed-other _ _ _ (omega arith) _ (rw (c .before .before .before .before .of-word .ensures) at (c .before .before .before .body-at .ensures .0)) _ (c .before .is-end .ensures ∙ ap isEndBody (c .before .before .read-at .ensures)) (c .if2 .taken)
+returns-2 c = closed-other _ _ _ (omega arith) _ (rw (c .before .before .before .before .of-word .ensures) at (c .before .before .before .body-at .ensures .0)) _ (c .before .is-end .ensures ∙ ap isEndBody (c .before .before .decode .ensures)) (c .if2 .taken)
 
 returns-3 : tie.Need-returns-3
-returns-3 c = closed-end _ _ _ (omega arith) _ (rw (c .before .before .before .before .of-word .ensures) at (c .before .before .before .body-at .ensures .0)) _ (c .before .is-end .ensures ∙ ap isEndBody (c .before .before .read-at .ensures)) (c .if2 .left)
+returns-3 c = closed-end _ _ _ (omega arith) _ (rw (c .before .before .before .before .of-word .ensures) at (c .before .before .before .body-at .ensures .0)) _ (c .before .is-end .ensures ∙ ap isEndBody (c .before .before .decode .ensures)) (c .if2 .left)
 
 pub check-end-spec : {M : Type 1} → statement M
 check-end-spec =
@@ -39,7 +39,7 @@ check-end-spec =
     sub-of-word
     of-word-requires
     body-at-requires
-    read-at-requires
+    decode-requires
     is-end-requires
     returns-2
     returns-3)

@@ -17,8 +17,8 @@ returns c =
     let s = a .file .now in
     body-is s (a .at) 0 (sym (List·getD-eq-default s 0 (c .if1 .taken))) 0 refl
 
-byte-in-requires : tie.Need-byte-in-requires
-byte-in-requires c κs = search needs
+read-at-requires : tie.Need-read-at-requires
+read-at-requires c κs = search needs
 
 wide-requires : tie.Need-wide-requires
 wide-requires c κs = search needs
@@ -26,11 +26,11 @@ wide-requires c κs = search needs
 add-t9 : tie.Need-add-t9
 add-t9 c = search needs
 
-add-byte-in : tie.Need-add-byte-in
-add-byte-in c = search needs
+add-read-at : tie.Need-add-read-at
+add-read-at c = search needs
 
-byte-in-requires-2 : tie.Need-byte-in-requires-2
-byte-in-requires-2 c κs = search needs
+read-at-requires-2 : tie.Need-read-at-requires-2
+read-at-requires-2 c κs = search needs
 
 of-byte-requires : tie.Need-of-byte-requires
 of-byte-requires c κs = search needs
@@ -49,7 +49,7 @@ unfolding alike formOf
 returns-2 c =
     let a = c .before .before .before .before .before .before .args in
     let w = c .before .before .wide .ensures in
-    let k = c .before .before .before .byte-in in
+    let k = c .before .before .before .read-at in
     run-is (a .file .now) (a .at) (k .result) (k .ensures) 1 16 4 refl (omega (arith, w .0)) (omega (arith, w .0, w .1))
 
 returns-3 : tie.Need-returns-3
@@ -57,8 +57,8 @@ unfolding alike formOf
 returns-3 c =
     let a = c .before .before .before .before .before .before .before .before .before .before .args in
     let w = c .before .before .before .before .before .before .wide .ensures in
-    let k = c .before .before .before .before .before .before .before .byte-in in
-    ap (λ b. Variable (k .result) (record { 0 = b })) (c .of-byte .ensures ∙ c .before .byte-in2 .ensures)
+    let k = c .before .before .before .before .before .before .before .read-at in
+    ap (λ b. Variable (k .result) (record { 0 = b })) (c .of-byte .ensures ∙ c .before .read-at2 .ensures)
     ∙ run-is (a .file .now) (a .at) (k .result) (k .ensures) 2 32 5 refl (omega (arith, w .0)) (omega (arith, w .0, w .1))
 
 returns-4 : tie.Need-returns-4
@@ -66,7 +66,7 @@ unfolding alike formOf
 returns-4 c =
     let a = c .before .before .before .before .before .before .before .before .before .before .before .before .args in
     let w = c .before .before .before .before .before .before .before .before .wide .ensures in
-    let k = c .before .before .before .before .before .before .before .before .before .byte-in in
+    let k = c .before .before .before .before .before .before .before .before .before .read-at in
     ap (λ l. Label (k .result) (record { 0 = l })) (c .of-word .ensures ∙ c .before .word-in .ensures .0)
     ∙ run-is (a .file .now) (a .at) (k .result) (k .ensures) 3 48 4 refl (omega (arith, w .0)) (omega (arith, w .0, w .1))
 
@@ -75,7 +75,7 @@ unfolding alike formOf
 returns-5 c =
     let a = c .before .before .before .before .before .args in
     let w = c .before .wide .ensures in
-    let k = c .before .before .byte-in in
+    let k = c .before .before .read-at in
     elim (decLt (k .result) 11) [
       | yes h ↦ run-is (a .file .now) (a .at) (k .result) (k .ensures) 0 0 11 refl (omega arith) h
       | no h ↦ run-is (a .file .now) (a .at) (k .result) (k .ensures) 4 11 5 refl (omega arith) (omega (arith, w .0, w .1))
@@ -86,7 +86,7 @@ unfolding alike formOf
 returns-6 c =
     let a = c .before .before .before .before .before .before .before .args in
     let w = c .before .before .before .wide .ensures in
-    let k = c .before .before .before .before .byte-in in
+    let k = c .before .before .before .before .read-at in
     run-is (a .file .now) (a .at) (k .result) (k .ensures) 4 20 12 refl (omega (arith, w .0)) (omega (arith, w .0, w .1))
 
 returns-7 : tie.Need-returns-7
@@ -94,7 +94,7 @@ unfolding alike formOf
 returns-7 c =
     let a = c .before .before .before .before .before .before .before .before .before .args in
     let w = c .before .before .before .before .before .wide .ensures in
-    let k = c .before .before .before .before .before .before .byte-in in
+    let k = c .before .before .before .before .before .before .read-at in
     run-is (a .file .now) (a .at) (k .result) (k .ensures) 4 37 11 refl (omega (arith, w .0)) (omega (arith, w .0, w .1))
 
 returns-8 : tie.Need-returns-8
@@ -102,7 +102,7 @@ unfolding alike formOf
 returns-8 c =
     let a = c .before .before .before .before .before .before .before .before .before .before .args in
     let w = c .before .before .before .before .before .before .wide .ensures in
-    let k = c .before .before .before .before .before .before .before .byte-in in
+    let k = c .before .before .before .before .before .before .before .read-at in
     run-is (a .file .now) (a .at) (k .result) (k .ensures) 4 52 204 refl (omega (arith, w .0)) (omega (arith, w .0, w .1))
 
 pub decode-spec : {M : Type 1} → statement M
@@ -110,11 +110,11 @@ decode-spec =
     tie.close
     (tie.spec
     returns
-    byte-in-requires
+    read-at-requires
     wide-requires
     add-t9
-    add-byte-in
-    byte-in-requires-2
+    add-read-at
+    read-at-requires-2
     of-byte-requires
     add-word-in
     word-in-requires

@@ -5,17 +5,17 @@ use borrow.Author.Needs.{needs}
 use Rattle.reader.proofs.body.word_in.Statement.{statement}
 use Rattle.reader.proofs.body.word_in.Tie as tie
 
-byte-in-requires : tie.Need-byte-in-requires
-byte-in-requires c κs = search needs
+read-at-requires : tie.Need-read-at-requires
+read-at-requires c κs = search needs
 
 wide-requires : tie.Need-wide-requires
 wide-requires c κs = search needs
 
-add-byte-in : tie.Need-add-byte-in
-add-byte-in c = search needs
+add-read-at : tie.Need-add-read-at
+add-read-at c = search needs
 
-byte-in-requires-2 : tie.Need-byte-in-requires-2
-byte-in-requires-2 c κs = search needs
+read-at-requires-2 : tie.Need-read-at-requires-2
+read-at-requires-2 c κs = search needs
 
 wide-requires-2 : tie.Need-wide-requires-2
 wide-requires-2 c κs = search needs
@@ -30,7 +30,7 @@ returns : tie.Need-returns
 returns c =
     let a = c .before .before .before .before .before .args in (
       omega
-          (arith, number-two (a .file .now) (a .at), c .before .before .wide .ensures .0, c .before .before .before .byte-in .ensures, c .wide2 .ensures .0, c .before .byte-in2 .ensures),
+          (arith, number-two (a .file .now) (a .at), c .before .before .wide .ensures .0, c .before .before .before .read-at .ensures, c .wide2 .ensures .0, c .before .read-at2 .ensures),
       omega (arith, c .before .before .wide .ensures .1, c .wide2 .ensures .1),
     )
 
@@ -38,10 +38,10 @@ pub word-in-spec : {M : Type 1} → statement M
 word-in-spec =
     tie.close
     (tie.spec
-    byte-in-requires
+    read-at-requires
     wide-requires
-    add-byte-in
-    byte-in-requires-2
+    add-read-at
+    read-at-requires-2
     wide-requires-2
     mul-result
     add-result

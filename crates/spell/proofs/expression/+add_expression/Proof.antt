@@ -11,6 +11,7 @@ use borrow.Fn.PlainCycle.{Measures, is, falls, and}
 use Rattle.spell.proofs.expression.add_expression.Reads as add-expression
 use Rattle.spell.proofs.expression.add_expression.Kinds as add-expression-kinds
 use Rattle.spell.proofs.expression.+add_expression.Lts-add_expression as add-expression-lts
+use Rattle.reader.proofs.read_at.Reads as read-at-reads
 use Rattle.spell.proofs.expression.leaf_row.Reads as leaf-row-reads
 use Rattle.rows.proofs.adding.add.Reads as add-reads
 use Rattle.spell.proofs.expression.+add_expression.{statement}
@@ -35,7 +36,9 @@ add-expression-below t =
     (falls 2 add-expression-kinds.ps _<_ μ-add-expression t)
     add-expression.Pre
 
-add-expression-shared-slice-read-b : (t : ℕ) → add-expression-lts.Need-shared-slice-read-b (
+add-expression-read-at-requires : (t : ℕ) → add-expression-lts.Need-read-at-requires (
+  read-at-reads.Asked,
+  read-at-reads.Learnt,
   leaf-row-reads.Asked,
   leaf-row-reads.Learnt,
   add-expression-below t,
@@ -43,11 +46,11 @@ add-expression-shared-slice-read-b : (t : ℕ) → add-expression-lts.Need-share
   add-reads.Asked,
   add-reads.Learnt,
 ) (add-expression-at t) add-expression.Post
-add-expression-shared-slice-read-b t c =
-    let c3 = c .before .before .before in
-    read-inside _ _ _ _ (c3 .pre .1 .legible)
+add-expression-read-at-requires t c κs = search needs
 
 add-expression-leaf-row-requires : (t : ℕ) → add-expression-lts.Need-leaf-row-requires (
+  read-at-reads.Asked,
+  read-at-reads.Learnt,
   leaf-row-reads.Asked,
   leaf-row-reads.Learnt,
   add-expression-below t,
@@ -57,7 +60,9 @@ add-expression-leaf-row-requires : (t : ℕ) → add-expression-lts.Need-leaf-ro
 ) (add-expression-at t) add-expression.Post
 add-expression-leaf-row-requires t c κs = search needs
 
-add-expression-add-t21 : (t : ℕ) → add-expression-lts.Need-add-t21 (
+add-expression-add-t19 : (t : ℕ) → add-expression-lts.Need-add-t19 (
+  read-at-reads.Asked,
+  read-at-reads.Learnt,
   leaf-row-reads.Asked,
   leaf-row-reads.Learnt,
   add-expression-below t,
@@ -65,11 +70,13 @@ add-expression-add-t21 : (t : ℕ) → add-expression-lts.Need-add-t21 (
   add-reads.Asked,
   add-reads.Learnt,
 ) (add-expression-at t) add-expression.Post
-add-expression-add-t21 t c =
+add-expression-add-t19 t c =
     let c5 = c .before .before .before .before .before in
     omega (arith, read-inside _ _ _ _ (c5 .pre .1 .legible))
 
 add-expression-returns : (t : ℕ) → add-expression-lts.Need-returns (
+  read-at-reads.Asked,
+  read-at-reads.Learnt,
   leaf-row-reads.Asked,
   leaf-row-reads.Learnt,
   add-expression-below t,
@@ -79,9 +86,11 @@ add-expression-returns : (t : ℕ) → add-expression-lts.Need-returns (
 ) (add-expression-at t) add-expression.Post
 add-expression-returns t c =
     let s = c .before .before .before .before .before in
-    spell-leaf _ _ _ _ _ _ (s .pre .1) (c .before .if1 .taken) _ (c .leaf-row .ensures)
+    spell-leaf _ _ _ _ _ _ (s .pre .1) (rw (c .before .before .read-at .ensures) at (c .before .if1 .taken)) _ (rw (c .before .before .read-at .ensures) at (c .leaf-row .ensures))
 
 add-expression-add-add-expression : (t : ℕ) → add-expression-lts.Need-add-add-expression (
+  read-at-reads.Asked,
+  read-at-reads.Learnt,
   leaf-row-reads.Asked,
   leaf-row-reads.Learnt,
   add-expression-below t,
@@ -94,6 +103,8 @@ add-expression-add-add-expression t c =
     omega (arith, read-inside _ _ _ _ (c4 .pre .1 .legible))
 
 add-expression-add-expression-requires : (t : ℕ) → add-expression-lts.Need-add-expression-requires (
+  read-at-reads.Asked,
+  read-at-reads.Learnt,
   leaf-row-reads.Asked,
   leaf-row-reads.Learnt,
   add-expression-below t,
@@ -103,9 +114,11 @@ add-expression-add-expression-requires : (t : ℕ) → add-expression-lts.Need-a
 ) (add-expression-at t) add-expression.Post
 add-expression-add-expression-requires t c κs =
     let s = c .before .before .before .before .before in
-    (omega (arith, read-before _ _ _ _ (s .pre .1 .legible), s .pre .0), operand-spelling _ _ _ _ _ _ (s .pre .1) (c .before .if1 .left))
+    (omega (arith, read-before _ _ _ _ (s .pre .1 .legible), s .pre .0), operand-spelling _ _ _ _ _ _ (s .pre .1) (rw (c .before .before .read-at .ensures) at (c .before .if1 .left)))
 
 add-expression-add-requires : (t : ℕ) → add-expression-lts.Need-add-requires (
+  read-at-reads.Asked,
+  read-at-reads.Learnt,
   leaf-row-reads.Asked,
   leaf-row-reads.Learnt,
   add-expression-below t,
@@ -116,9 +129,11 @@ add-expression-add-requires : (t : ℕ) → add-expression-lts.Need-add-requires
 add-expression-add-requires t c κs =
     let c7 = c .before .before .before .before .before .before .before in
     let s = c7 .before .before .before .before .before .before in
-    spell-addable _ _ _ _ _ _ (s .pre .1) _ _ (c7 .add-expression .ensures) (c .before .if2 .taken)
+    spell-addable _ _ _ _ _ _ (s .pre .1) _ _ (c7 .add-expression .ensures) (rw (c .before .before .before .before .before .before .before .before .before .before .read-at .ensures) at (c .before .if2 .taken))
 
 add-expression-same-length : (t : ℕ) → add-expression-lts.Need-same-length (
+  read-at-reads.Asked,
+  read-at-reads.Learnt,
   leaf-row-reads.Asked,
   leaf-row-reads.Learnt,
   add-expression-below t,
@@ -129,6 +144,8 @@ add-expression-same-length : (t : ℕ) → add-expression-lts.Need-same-length (
 add-expression-same-length t c = search needs
 
 add-expression-returns-2 : (t : ℕ) → add-expression-lts.Need-returns-2 (
+  read-at-reads.Asked,
+  read-at-reads.Learnt,
   leaf-row-reads.Asked,
   leaf-row-reads.Learnt,
   add-expression-below t,
@@ -140,11 +157,13 @@ add-expression-returns-2 t c =
     let c4 = c .before .before .before .before in
     let c10 = c4 .before .before .before .before .before .before in
     let s = c10 .before .before .before .before .before .before in
-    spell-not _ _ _ _ _ _ (s .pre .1) _ _ (c10 .add-expression .ensures) (c4 .if2 .taken) _ _ (c .before .before .add .ensures)
+    spell-not _ _ _ _ _ _ (s .pre .1) _ _ (c10 .add-expression .ensures) (rw (c .before .before .before .before .before .before .before .before .before .before .before .before .before .read-at .ensures) at (c4 .if2 .taken)) _ _ (c .before .before .add .ensures)
     (c .before .before .add .kept .0)
 
 add-expression-add-expression-requires-2 :
     (t : ℕ) → add-expression-lts.Need-add-expression-requires-2 (
+      read-at-reads.Asked,
+      read-at-reads.Learnt,
       leaf-row-reads.Asked,
       leaf-row-reads.Learnt,
       add-expression-below t,
@@ -156,7 +175,7 @@ add-expression-add-expression-requires-2 t c κs =
     let c7 = c .before .before .before .before .before .before .before in
     let c9 = c7 .before .before in
     let s = c9 .before .before .before .before in
-    let h : 252 < getD (s .args .file .now) (s .args .at) 0 = omega (arith, c9 .if1 .left, c .before .if2 .left) in
+    let h : 252 < getD (s .args .file .now) (s .args .at) 0 = omega (arith, c9 .if1 .left, c .before .if2 .left, c .before .before .before .before .before .before .before .before .before .before .read-at .ensures) in
     let e = c7 .add-expression .ensures in
     let g = second-spelling _ _ _ _ _ _ (s .pre .1) _ _ e h in (
       omega (
@@ -170,6 +189,8 @@ add-expression-add-expression-requires-2 t c κs =
     )
 
 add-expression-add-requires-2 : (t : ℕ) → add-expression-lts.Need-add-requires-2 (
+  read-at-reads.Asked,
+  read-at-reads.Learnt,
   leaf-row-reads.Asked,
   leaf-row-reads.Learnt,
   add-expression-below t,
@@ -183,11 +204,13 @@ add-expression-add-requires-2 t c κs =
     let c14 = c8 .before .before .before .before .before .before in
     let c16 = c14 .before .before in
     let s = c16 .before .before .before .before in
-    let h : 252 < getD (s .args .file .now) (s .args .at) 0 = omega (arith, c16 .if1 .left, c8 .if2 .left) in
+    let h : 252 < getD (s .args .file .now) (s .args .at) 0 = omega (arith, c16 .if1 .left, c8 .if2 .left, c .before .before .before .before .before .before .before .before .before .before .before .before .before .before .before .before .before .read-at .ensures) in
     both-addable _ _ _ _ _ _ (s .pre .1) _ _ (c14 .add-expression .ensures) h _ _ (c6 .add-expression2 .ensures)
     (c6 .add-expression2 .kept .1 .1 .1 .1 .0) _
 
 add-expression-same-length-2 : (t : ℕ) → add-expression-lts.Need-same-length-2 (
+  read-at-reads.Asked,
+  read-at-reads.Learnt,
   leaf-row-reads.Asked,
   leaf-row-reads.Learnt,
   add-expression-below t,
@@ -198,6 +221,8 @@ add-expression-same-length-2 : (t : ℕ) → add-expression-lts.Need-same-length
 add-expression-same-length-2 t c = search needs
 
 add-expression-returns-3 : (t : ℕ) → add-expression-lts.Need-returns-3 (
+  read-at-reads.Asked,
+  read-at-reads.Learnt,
   leaf-row-reads.Asked,
   leaf-row-reads.Learnt,
   add-expression-below t,
@@ -211,12 +236,14 @@ add-expression-returns-3 t c =
     let c17 = c11 .before .before .before .before .before .before in
     let c19 = c17 .before .before in
     let s = c19 .before .before .before .before in
-    let h : 252 < getD (s .args .file .now) (s .args .at) 0 = omega (arith, c19 .if1 .left, c11 .if2 .left) in
+    let h : 252 < getD (s .args .file .now) (s .args .at) 0 = omega (arith, c19 .if1 .left, c11 .if2 .left, c .before .before .before .before .before .before .before .before .before .before .before .before .before .before .before .before .before .before .before .before .read-at .ensures) in
     spell-two _ _ _ _ _ _ (s .pre .1) _ _ (c17 .add-expression .ensures) h _ _ (c9 .add-expression2 .ensures)
-    (c9 .add-expression2 .kept .1 .1 .1 .1 .0) _ _ (c .before .before .add2 .ensures) (c .before .before .add2 .kept .0)
+    (c9 .add-expression2 .kept .1 .1 .1 .1 .0) _ _ (rw (c .before .before .before .before .before .before .before .before .before .before .before .before .before .before .before .before .before .before .before .before .read-at .ensures) at (c .before .before .add2 .ensures)) (c .before .before .add2 .kept .0)
 
 pub +add-expression-spec : {M : Type 1} → statement M
 +add-expression-spec = close μ-add-expression λ t. add-expression-lts.spec (
+  read-at-reads.Asked,
+  read-at-reads.Learnt,
   leaf-row-reads.Asked,
   leaf-row-reads.Learnt,
   add-expression-below t,
@@ -226,9 +253,9 @@ pub +add-expression-spec : {M : Type 1} → statement M
 )
     (add-expression-at t)
     add-expression.Post
-    (add-expression-shared-slice-read-b t)
+    (add-expression-read-at-requires t)
     (add-expression-leaf-row-requires t)
-    (add-expression-add-t21 t)
+    (add-expression-add-t19 t)
     (add-expression-returns t)
     (add-expression-add-add-expression t)
     (add-expression-add-expression-requires t)

@@ -2,8 +2,8 @@
 use mathlib.Core.Path.{sym}
 use lib.ListN.{List·getD-eq-default}
 use borrow.Author.Needs.{needs}
-use Rattle.reader.proofs.body.byte_in.Statement.{statement}
-use Rattle.reader.proofs.body.byte_in.Tie as tie
+use Rattle.reader.proofs.byte_in.Statement.{statement}
+use Rattle.reader.proofs.byte_in.Tie as tie
 
 shared-slice-read-result : tie.Need-shared-slice-read-result
 shared-slice-read-result c = search needs
