@@ -32,8 +32,8 @@ use Rattle.writer.specs.declared.Written.{Written}
 use Rattle.writer.specs.declared.Written.the-variants as W
 use Rattle.build.specs.declared.Built.the-variants.{Length, Refused}
 use Rattle.build.specs.Contract.{answer, Builds, Ready}
-use Rattle.turns.specs.Turning.{Building}
-use Rattle.turns.specs.Slots.{slot-inside}
+use Rattle.turn.specs.Turning.{Building}
+use Rattle.turn.specs.Slots.{slot-inside}
 
 module _ (file : List ℕ) (rows numbers heads : ℕ) (out : List ℕ) where
   abbrev v : Verdict (List ℕ)

@@ -1,5 +1,5 @@
 use Rattle.build.specs.Answer.{rows-short, numbers-short, heads-short}
-use Rattle.turns.specs.Slots.{slot-most}
+use Rattle.turn.specs.Slots.{slot-most}
 use Rattle.program.specs.Standing.{header-there, standing, most-cells}
 use native.Mathlib.Omega.{arith}
 use borrow.Author.Needs.{needs}

@@ -1,4 +1,4 @@
-use Rattle.turns.specs.Turning.{Building}
+use Rattle.turn.specs.Turning.{Building}
 use borrow.Author.Needs.{needs}
 use lib.ListN.{length}
 use native.Mathlib.Omega.{arith}

@@ -1,5 +1,5 @@
-use Rattle.turns.specs.TurnLaws.{place, slot-ends, turn-built}
-use Rattle.turns.specs.Slots.{slot-fits}
+use Rattle.turn.specs.TurnLaws.{place, slot-ends, turn-built}
+use Rattle.turn.specs.Slots.{slot-fits}
 use Rattle.program.specs.Standing.{most-cells}
 use native.Mathlib.Omega.{arith}
 use borrow.Author.Needs.{needs}

@@ -6,7 +6,7 @@ use native.Mathlib.Omega.{arith}
 use native.Mathlib.Nat.{mul-le-mul-right}
 use lib.ListN.{length, take, drop, length-append, length-drop}
 use lib.Seq.{length-take-le, drop-drop, take-at, drop-at}
-use Rattle.turns.specs.Turning.{slot}
+use Rattle.turn.specs.Turning.{slot}
 
 -- R38: where the heads of T(i) begin and end, for C cells and n instructions.
 pub slot-most : (i C : ℕ) → i ≤ 512 → C ≤ 217 → i * C ≤ 111104

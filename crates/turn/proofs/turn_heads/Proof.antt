@@ -4,10 +4,10 @@ use native.Mathlib.Omega.{arith}
 use lib.ListN.{length}
 use Rattle.program.specs.Codes.{aloneOf}
 use Rattle.program.specs.Standing.{contents-there, most-vars}
-use Rattle.turns.specs.TurnLaws.{place, told, plain-next, owning, end-turned, own-following, plain-turned, label-cut, label-next, label-length, jumping, jump-turned}
+use Rattle.turn.specs.TurnLaws.{place, told, plain-next, owning, end-turned, own-following, plain-turned, label-cut, label-next, label-length, jumping, jump-turned}
 use borrow.Author.Needs.{needs}
-use Rattle.turns.proofs.turn_heads.Statement.{statement}
-use Rattle.turns.proofs.turn_heads.Tie as tie
+use Rattle.turn.proofs.turn_heads.Statement.{statement}
+use Rattle.turn.proofs.turn_heads.Tie as tie
 
 cells-requires : tie.Need-cells-requires
 cells-requires c κs = search needs

@@ -1,8 +1,8 @@
-use Rattle.turns.specs.JumpLaws.{flag-few, jump-choosing, jumps-jp, jumps-jpc, jumps-js, call-choosing, jumps-jsc}
+use Rattle.turn.specs.JumpLaws.{flag-few, jump-choosing, jumps-jp, jumps-jpc, jumps-js, call-choosing, jumps-jsc}
 use native.Mathlib.Omega.{arith}
 use borrow.Author.Needs.{needs}
-use Rattle.turns.proofs.jump_heads.Statement.{statement}
-use Rattle.turns.proofs.jump_heads.Tie as tie
+use Rattle.turn.proofs.jump_heads.Statement.{statement}
+use Rattle.turn.proofs.jump_heads.Tie as tie
 
 returns : tie.Need-returns
 returns c = jumps-jp _ _ _ _ _ _ (c .if1 .taken)

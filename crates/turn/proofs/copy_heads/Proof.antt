@@ -5,8 +5,8 @@ use native.Mathlib.Omega.{arith}
 use lib.ListN.{length}
 use borrow.Author.Needs.{needs}
 use Rattle.storage.specs.Moves.{Replacing, replacing-none, replacing-more, replacing-whole}
-use Rattle.turns.proofs.copy_heads.Statement.{statement}
-use Rattle.turns.proofs.copy_heads.Tie as tie
+use Rattle.turn.proofs.copy_heads.Statement.{statement}
+use Rattle.turn.proofs.copy_heads.Tie as tie
 
 abbrev Inv-loop : tie.InvT-loop
 Inv-loop from to₀ i₀ to i = Replacing to₀ 0 from to i

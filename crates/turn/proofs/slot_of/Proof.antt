@@ -1,9 +1,9 @@
 use mathlib.Core.Path.{refl}
-use Rattle.turns.specs.Slots.{slot-most}
+use Rattle.turn.specs.Slots.{slot-most}
 use native.Mathlib.Omega.{arith}
 use borrow.Author.Needs.{needs}
-use Rattle.turns.proofs.slot_of.Statement.{statement}
-use Rattle.turns.proofs.slot_of.Tie as tie
+use Rattle.turn.proofs.slot_of.Statement.{statement}
+use Rattle.turn.proofs.slot_of.Tie as tie
 
 cast-result : tie.Need-cast-result
 cast-result c = search needs

@@ -16,7 +16,7 @@ use Rattle.program.specs.Codes.{onLabel}
 use Rattle.table.specs.declared.Table.{Table}
 use Rattle.choice.specs.Choosing.{Choosing, Chooses}
 use Rattle.rewrite.specs.Follow.{Follows}
-use Rattle.turns.specs.Turning.{jumped, Jumping, Jumps}
+use Rattle.turn.specs.Turning.{jumped, Jumping, Jumps}
 
 -- R38: the turn of a jump or call is what its code makes of T(l) and T(i+1).
 pub turn-jumped : (sh : Shape) (i c l : ℕ) (t : List Row) (T : ℕ → List ℕ) → 48 ≤ c → c < 52

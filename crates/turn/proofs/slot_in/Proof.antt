@@ -1,9 +1,9 @@
 -- `slot_in` meets its contract.
 use mathlib.Core.Path.{refl}
-use Rattle.turns.specs.Slots.{slot-cut}
+use Rattle.turn.specs.Slots.{slot-cut}
 use borrow.Author.Needs.{needs}
-use Rattle.turns.proofs.slot_in.Statement.{statement}
-use Rattle.turns.proofs.slot_in.Tie as tie
+use Rattle.turn.proofs.slot_in.Statement.{statement}
+use Rattle.turn.proofs.slot_in.Tie as tie
 
 slot-of-requires : tie.Need-slot-of-requires
 slot-of-requires c κs = search needs

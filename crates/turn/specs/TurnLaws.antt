@@ -34,9 +34,9 @@ use Rattle.own.specs.Owning.{Owning, Owns}
 use Rattle.reader.specs.declared.body.Body.{Body}
 use Rattle.reader.specs.declared.body.Body.the-variants.{Label}
 use Rattle.rewrite.specs.Follow.{Following, Follows}
-use Rattle.turns.specs.Turning.{built, slot, Building, turnAt, Turning, Jumping, Jumps}
-use Rattle.turns.specs.Slots.{slot-inside, slot-length, putAt, length-put, slot-put, slot-kept}
-use Rattle.turns.specs.JumpLaws.{turn-jumped}
+use Rattle.turn.specs.Turning.{built, slot, Building, turnAt, Turning, Jumping, Jumps}
+use Rattle.turn.specs.Slots.{slot-inside, slot-length, putAt, length-put, slot-put, slot-kept}
+use Rattle.turn.specs.JumpLaws.{turn-jumped}
 
 -- ---- one turn more
 
