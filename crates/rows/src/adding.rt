@@ -66,7 +66,10 @@ fn settle(rows: &mut [u64], table: Table, node: Node) -> Added
     if at < used {
         return Added {
             row: Row(at as u16),
-            table: table,
+            table: Table {
+                used: used,
+                refused: false,
+            },
         };
     }
     Added {

@@ -1,5 +1,5 @@
 -- `settle` meets its contract: the row stands, or it is appended.
-use mathlib.Core.Path.{refl}
+use mathlib.Core.Path.{refl, sym}
 use native.Mathlib.Omega.{arith}
 use Rattle.laws.specs.Search.{last-low}
 use Rattle.rows.specs.Entries.{nodeRow}
@@ -41,10 +41,11 @@ returns c =
     let c5 = c4 .before in
     let c7 = c5 .before .before in
     settle-stood _ _ (c7 .args .node) _ _ _ (c5 .entry-of .ensures) (c4 .last-operand .ensures)
-    (c .before .find-entry .ensures .0) (c7 .pre .1) (c .if1 .taken) _ refl refl
+    (c .before .find-entry .ensures .0) (c7 .pre .1) (c .if1 .taken) _ refl
+    (λ k. record { used = c7 .args .table .used; refused = sym (c7 .pre .1) k })
 
-cast-t15 : tie.Need-cast-t15
-cast-t15 c = search needs
+cast-t16 : tie.Need-cast-t16
+cast-t16 c = search needs
 
 append-to-requires : tie.Need-append-to-requires
 append-to-requires c κs = search needs
@@ -73,7 +74,7 @@ settle-spec =
     cast-t13
     same-length
     returns
-    cast-t15
+    cast-t16
     append-to-requires
     same-length-2
     returns-2)
