@@ -2,15 +2,15 @@
 ghost use Rattle.std.specs.Prelude.{◌≡◌, ◌+◌, ◌<◌};
 
 // A cell's number.
-#[derive(Drop)]
+#[derive(Clone, Copy)]
 pub struct Cell(pub u16);
 
 // A row's number.
-#[derive(Drop)]
+#[derive(Clone, Copy)]
 pub struct Row(pub u16);
 
 // An instruction's number.
-#[derive(Drop)]
+#[derive(Clone, Copy)]
 pub struct Instr(pub u16);
 
 impl Cell {

@@ -1,4 +1,6 @@
 // What every crate shares: the three kinds of number, the shape, refusals, numbers in bytes.
+#![tactic(auto)]
+
 pub mod bytes;
 pub mod kinds;
 pub mod refusal;

@@ -4,7 +4,7 @@ ghost use Rattle.base.specs.Answers.{number_of, place_of};
 
 use crate::kinds::Instr;
 
-#[derive(Drop)]
+#[derive(Clone, Copy)]
 pub enum Refusal {
     // 1
     EndsEarly(usize),
@@ -37,7 +37,7 @@ pub enum Refusal {
 }
 
 // The number of a refusal, and its place.
-#[derive(Drop)]
+#[derive(Clone, Copy)]
 pub struct Shown(pub usize, pub usize);
 
 // R46: what a refusal is shown as.

@@ -20,13 +20,13 @@ use Rattle.base.specs.Answers.{shape_of, refused_by}
 use Rattle.base.specs.declared.shape.Shape.{Shape}
 use Rattle.base.specs.declared.refusal.Refusal.{Refusal}
 use Rattle.base.specs.declared.refusal.Refusal.TheVariants.{NoRoom}
-use Rattle.program.specs.Contracts.{check_of}
+use Rattle.program.specs.Stages.{check_of}
 use Rattle.program.specs.Standing.{program_in, Standing, formed}
 use Rattle.table.specs.declared.Table.{Table}
 use Rattle.rows.specs.Table.{Filled}
 use Rattle.rows.specs.Stored.{filled-holds}
 use Rattle.rows.specs.Making.{Drawn}
-use Rattle.writer.specs.Contracts.{Writes, refused_writes}
+use Rattle.writer.specs.Writes.{Writes, refused_writes}
 use Rattle.writer.specs.Finish.{Finishing, Finishes}
 use Rattle.writer.specs.declared.Written.{Written}
 use Rattle.writer.specs.declared.Written.TheVariants as W

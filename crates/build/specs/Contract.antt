@@ -11,7 +11,7 @@ use Rattle.base.specs.Answers.{shape_of, refused_by}
 use Rattle.base.specs.Refusals.{refusal_of, refusal_back}
 use Rattle.base.specs.declared.shape.Shape.{Shape}
 use Rattle.program.specs.Standing.{Standing}
-use Rattle.writer.specs.Contracts.{length_of, writes_front}
+use Rattle.writer.specs.Writes.{length_of, writes_front}
 use Rattle.build.specs.declared.Built.{Built}
 use Rattle.build.specs.declared.Built.TheVariants.{Length, Refused}
 

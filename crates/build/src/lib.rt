@@ -1,4 +1,6 @@
 // Builds the transfer set of a program file (R37 to R39, R51, R55).
+#![tactic(auto)]
+
 ghost use Rattle.std.specs.Prelude.{◌≡◌, ◌+◌, ◌≤◌, length};
 ghost use Rattle.rules.specs.Verdict.{granted};
 ghost use Rattle.rules.specs.Edition.{old};
@@ -7,7 +9,7 @@ ghost use Rattle.rules.specs.Rows.{base};
 ghost use Rattle.rules.specs.Operations.{work_after};
 ghost use Rattle.program.specs.Standing.{program_in};
 ghost use Rattle.rows.specs.Table.{Filled};
-ghost use Rattle.writer.specs.Contracts.{Writes};
+ghost use Rattle.writer.specs.Writes.{Writes};
 ghost use Rattle.build.specs.Contract.{answer, Builds, Ready};
 
 use base::bytes::word;
@@ -23,7 +25,7 @@ use turns::build_turns;
 use writer::{Written, write_finished};
 
 // How building ended.
-#[derive(Drop)]
+#[derive(Clone, Copy)]
 pub enum Built {
     // The set was written, in so many bytes.
     Length(usize),

@@ -224,7 +224,7 @@ module _ (first second : List ℕ) (shape : Shape) (p : Pair first second shape)
   module _ (j : ℕ) (h : j < rows_in second) (c : ℕ) (e : c ≡ C) where
     pub row_inside : Inside second (shape_of shape) (2 + c + j)
     row_inside =
-        rw (← second-shape)
+        subst (λ (x : R.Shape). Inside second x (2 + c + j)) second-shape
         (sized_inside second (shape_at old second) (rows_in second) (2 + c + j) (taken_sized second p.two)
         (omega (arith, ap cells second-shape)))
 

@@ -1,7 +1,8 @@
 -- Copying the rows of a set file into a slice: what the file says of each.
 use Rattle.std.specs.Prelude.{ℕ, ◌+◌, ◌≤◌, ◌<◌, ◌≡◌, List, length}
-use Rattle.std.proofs.Common.{ap, sym, ◌∙◌, arith}
+use Rattle.std.proofs.Common.{ap, sym, subst, ◌∙◌, arith}
 use Rattle.rules.specs.Edition.{old}
+use Rattle.rules.specs.Shape as R
 use Rattle.rules.specs.Shape.{cells, shape_at}
 use Rattle.rules.specs.Room.{room}
 use Rattle.rules.specs.Rows.{row_at}
@@ -21,7 +22,7 @@ module _ (file : List ℕ) (shape : Shape) (total : ℕ) (rows : List ℕ) (w : 
   module _ (i : ℕ) (h : i < total) where
     pub copied-inside : Inside file (shape_of shape) i
     copied-inside =
-        rw w.shaped
+        subst (λ (x : R.Shape). Inside file x i) (sym w.shaped)
         (sized_inside file (shape_at old file) (rows_in file) i (taken_sized file w.taken) (omega (arith, size, w.whole)))
 
     pub copied-few : i < 65536

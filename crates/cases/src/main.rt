@@ -1,4 +1,6 @@
 // Reads cases from standard input and writes an answer to each, a line a case, to standard output.
+#![tactic(auto)]
+
 mod answer;
 mod new_set;
 mod one_file;

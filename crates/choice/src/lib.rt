@@ -1,4 +1,6 @@
 // Choice by a row between two sets over one table (R35).
+#![tactic(auto)]
+
 ghost use Rattle.std.specs.Prelude.{◌≡◌, false, length};
 ghost use Rattle.rules.specs.Sets as S;
 ghost use Rattle.choice.specs.Choosing.{Choosable, Picks, Choosing, Chooses};

@@ -20,7 +20,7 @@ use Rattle.table.specs.declared.Table.{Table}
 use Rattle.rows.specs.Table.{Holds}
 use Rattle.rows.specs.Making.{Drawn}
 use Rattle.rows.specs.Stored.{stored-length}
-use Rattle.writer.specs.Contracts.{Writes, refused_writes}
+use Rattle.writer.specs.Writes.{Writes, refused_writes}
 use Rattle.writer.specs.Finish.{Finishing, Finishes}
 use Rattle.writer.specs.declared.Written.{Written}
 use Rattle.writer.specs.declared.Written.TheVariants as W

@@ -8,7 +8,7 @@ use Rattle.base.specs.Answers.{refused_by}
 use Rattle.base.specs.Refusals.{refusal_of, refusal_back}
 use Rattle.base.specs.declared.shape.Shape.{Shape}
 use Rattle.table.specs.declared.Table.{Table}
-use Rattle.writer.specs.Contracts.{length_of}
+use Rattle.writer.specs.Writes.{length_of}
 use Rattle.sets.specs.Spelt.{set_in, rows_in}
 use Rattle.compose.specs.declared.Composed.{Composed}
 use Rattle.compose.specs.declared.Composed.TheVariants.{Length, First, Second, Refused}

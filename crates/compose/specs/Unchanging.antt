@@ -8,7 +8,7 @@ use Rattle.rules.specs.Operations.{unchanging_set, write_into, write_unchanging,
 use Rattle.laws.specs.Verdict.{bind_granted, check_granted}
 use Rattle.laws.specs.Bytes.{Bytes}
 use Rattle.laws.specs.Files.{old_sensible, unchanging-first, unchanging-second}
-use Rattle.writer.specs.Contracts.{Writes, writes_front}
+use Rattle.writer.specs.Writes.{Writes, writes_front}
 use Rattle.writer.specs.declared.Written.TheVariants as W
 use Rattle.compose.specs.declared.Composed.TheVariants.{Length}
 use Rattle.compose.specs.Contract.{answer, Composes}

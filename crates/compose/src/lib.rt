@@ -1,4 +1,6 @@
 // Composes two set files (R34, R40, R51, R56).
+#![tactic(auto)]
+
 pub mod pair;
 
 ghost use Rattle.std.specs.Prelude.{◌≡◌, length};
@@ -14,7 +16,7 @@ use sets::check_set;
 use writer::Written;
 
 // How composing ended.
-#[derive(Drop)]
+#[derive(Clone, Copy)]
 pub enum Composed {
     Length(usize),
     // The first file is refused.

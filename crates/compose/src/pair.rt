@@ -3,7 +3,7 @@ ghost use Rattle.std.specs.Prelude.{◌≡◌, length};
 ghost use Rattle.rules.specs.Shape.{cells};
 ghost use Rattle.rules.specs.Operations.{same_shape};
 ghost use Rattle.base.specs.Answers.{shape_of};
-ghost use Rattle.writer.specs.Contracts.{Writes};
+ghost use Rattle.writer.specs.Writes.{Writes};
 ghost use Rattle.sets.specs.Spelt.{Taken};
 ghost use Rattle.compose.specs.Contract.{answer, Pairs, Finished};
 

@@ -1,6 +1,6 @@
 -- Laws of the values of a set file's rows: a law for each kind of row, and for each turn of working them out and of taking the heads.
 use Rattle.std.specs.Prelude.{ℕ, zero, suc, ◌+◌, ◌-◌, ◌≤◌, ◌<◌, min, max, ◌≡◌, refl, Bool, true, List, ◌∷◌, map, get_or, set}
-use Rattle.std.proofs.Math.Path.{ap, sym}
+use Rattle.std.proofs.Math.Path.{ap, sym, subst}
 use Rattle.std.proofs.Common.{◌∙◌, length-set, get_or-set_same}
 use Rattle.std.proofs.Math.Bool.{false}
 use native.Mathlib.Omega.{arith}
@@ -154,7 +154,7 @@ module _ (file : List ℕ) (s : List ℕ) (e : Evaluable file s) where
 
   module _ (shape : B.Shape) (total : ℕ) (vs : List ℕ) (i : ℕ) (g : Working shape total vs i) (h : i < total) where
     pub working_inside : Inside file (shape_of shape) i
-    working_inside = rw g.shaped (sized_inside file sh r i (taken_sized file e.accepted) (omega (arith, g.whole, size)))
+    working_inside = subst (λ (x : Shape). Inside file x i) (sym g.shaped) (sized_inside file sh r i (taken_sized file e.accepted) (omega (arith, g.whole, size)))
 
     pub working_few : i < 65536
     working_few = omega (arith, e.accepted.room, g.whole, size)

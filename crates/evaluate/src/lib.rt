@@ -1,4 +1,6 @@
 // Evaluates a set file on a storage (R27, R31, R51, R57).
+#![tactic(auto)]
+
 pub mod values;
 
 ghost use Rattle.std.specs.Prelude.{◌≡◌, length};

@@ -80,7 +80,7 @@ fn take_heads(file: &[u8], storage: &mut [u8], values: &[u8])
 }
 
 // How evaluating ended. What it gives is left in the storage.
-#[derive(Drop)]
+#[derive(Clone, Copy)]
 pub enum Evaluated {
     Done,
     Refused(Refusal),

@@ -4,14 +4,14 @@ ghost use Rattle.rules.specs.Lists.{number_at};
 ghost use Rattle.harness.specs.Fields.{Fits};
 
 // A number, or an input that ends before it.
-#[derive(Drop)]
+#[derive(Clone, Copy)]
 pub enum Number {
     Is(u32),
     Cut,
 }
 
 // How a string was read.
-#[derive(Drop)]
+#[derive(Clone, Copy)]
 pub enum Text {
     // So many bytes of what was lent hold it.
     Holds(usize),

@@ -7,7 +7,7 @@ use reader::read_at;
 use storage::bits::{both, either};
 
 // A bit, and the place after the expression that it is the value of.
-#[derive(Drop)]
+#[derive(Clone, Copy)]
 pub struct Valued {
     pub bit: u8,
     pub next: usize,

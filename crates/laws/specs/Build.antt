@@ -39,14 +39,14 @@ add_exp_sound w (con true) h = record { canonical = w; low = omega (arith, w.lon
 add_exp_sound w (con false) h = record { canonical = w; low = omega (arith, w.long); val = zero_is w }
 add_exp_sound w (cell c) h = record { canonical = w; low = omega (arith, w.long); val = λ s. cell-value w s c h }
 add_exp_sound {t = t} w (neg x) h =
-    let a = add_exp_sound w x h in
+    let a = add_exp_sound {t = t} w x h in
     let n = add_sound a.canonical (inv (add_exp t x).row) a.low in
     record { canonical = n.canonical; low = n.low; val = λ s. n.val s ∙ ap not (a.val s) }
 add_exp_sound {t = t} w (bin o x y) h =
     let p = add_exp t x in
-    let a = add_exp_sound w x h.0 in
+    let a = add_exp_sound {t = t} w x h.0 in
     let q = add_exp p.tab y in
-    let b = add_exp_sound a.canonical y h.1 in
+    let b = add_exp_sound {t = p.tab} a.canonical y h.1 in
     let more = grown_ext (add_exp-grown p.tab y) in
     let n = add_sound b.canonical (Rattle.rules.specs.Rows.bin o p.row q.row)
     (omega (arith, a.low, ext_length more), b.low) in

@@ -12,9 +12,9 @@ use Rattle.rules.specs.Lines.{set_text, answer_text, tset}
 use Rattle.base.specs.Answers.{number_of, place_of, refused_by}
 use Rattle.base.specs.declared.refusal.Refusal.{Refusal}
 use Rattle.sets.specs.Answer.{set-refused}
-use Rattle.sets.specs.Contracts.{set_verdict}
+use Rattle.sets.specs.Judging.{set_verdict}
 use Rattle.sets.specs.Spelt.{set_in, Taken, taken-read}
-use Rattle.writer.specs.Contracts.{length_of}
+use Rattle.writer.specs.Writes.{length_of}
 use Rattle.writer.specs.Put.{put-size, put_whole}
 use Rattle.build.specs.Contract.{answer, built_verdict, Builds, built-front}
 use Rattle.build.specs.declared.Built.{Built}

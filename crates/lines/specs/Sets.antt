@@ -12,7 +12,7 @@ use Rattle.rules.specs.Rows.{Row, row_at}
 use Rattle.rules.specs.SetFile.{TransferSet, leaves, head_at}
 use Rattle.rules.specs.Lines.{set_text}
 use Rattle.laws.specs.Shape.{header-granted, shape-limits}
-use Rattle.sets.specs.Contracts.{Among}
+use Rattle.sets.specs.Judging.{Among}
 use Rattle.sets.specs.Spelt.{rows_in, set_in, Taken, Inside, spelt_row, spelt-shape, spelt-length, spelt-head, spelt-row, sized_inside, taken_sized}
 use Rattle.writer.specs.Put.{put_at, flat_map-append, flat_map-one}
 use Rattle.text.specs.Puts.{Fits, Puts, fits_as, fits-here, fits_next, puts_as, puts_then}

@@ -1,4 +1,6 @@
 // What `tset` prints: the text of a set or of a refusal (R60 to R64).
+#![tactic(auto)]
+
 pub mod set;
 
 ghost use Rattle.std.specs.Prelude.{◌≡◌, ◌≤◌, length, take};

@@ -4,7 +4,7 @@ ghost use Rattle.rules.specs.Lines.{set_text};
 ghost use Rattle.rules.specs.Shape as S;
 ghost use Rattle.rules.specs.SetFile.{leaves};
 ghost use Rattle.base.specs.Answers.{shape_of};
-ghost use Rattle.sets.specs.Contracts.{Among};
+ghost use Rattle.sets.specs.Judging.{Among};
 ghost use Rattle.sets.specs.Spelt.{rows_in, set_in, Taken};
 ghost use Rattle.text.specs.Puts.{Fits, Puts};
 ghost use Rattle.lines.specs.Sets.{Opened, cell_text, cell_texts, row_text, row_texts};

@@ -16,7 +16,7 @@ use Rattle.storage.specs.Stores.{get_d_bits, bits_back, performed_storage, perfo
 use Rattle.machine.specs.declared.obey.Move.{Move}
 use Rattle.machine.specs.declared.obey.Move.TheVariants.{On, End}
 use Rattle.instruction.specs.declared.eval.Valued.{Valued}
-use Rattle.program.specs.Contracts.{instr_in}
+use Rattle.program.specs.Stages.{instr_in}
 use Rattle.program.specs.Codes.{alone_of, on_expr, on_variable, on_label, Tells}
 use Rattle.reader.specs.declared.body.Body.{Body}
 use Rattle.reader.specs.declared.body.Body.TheVariants.{Alone, Value, Variable, Label}

@@ -16,7 +16,7 @@ use Rattle.base.specs.declared.refusal.Refusal.{Refusal}
 use Rattle.base.specs.declared.refusal.Refusal.TheVariants.{BudgetSpent}
 use Rattle.base.specs.Answers.{shape_of, refused_by, number_of, place_of}
 use Rattle.base.specs.Refusals.{refusal_of, refusal_back}
-use Rattle.program.specs.Contracts.{check_of}
+use Rattle.program.specs.Stages.{check_of}
 use Rattle.program.specs.Standing.{program_in, standing}
 use Rattle.storage.specs.Cells.{bits_of}
 use Rattle.storage.specs.Checked.{check_cells, cells_passed, cells-refused, all_cells}

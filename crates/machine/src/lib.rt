@@ -1,4 +1,6 @@
 // Scans a program step by step.
+#![tactic(auto)]
+
 pub mod obey;
 pub mod run;
 
@@ -20,7 +22,7 @@ use program::{Checked, check_program};
 use storage::{Cells, check_cells, copy_cells};
 
 // R25: how a scan ended.
-#[derive(Drop)]
+#[derive(Clone, Copy)]
 pub enum Scanned {
     // The machine stopped, after so many steps.
     Stopped(u32),

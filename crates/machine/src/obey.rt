@@ -14,7 +14,7 @@ use reader::body::Body;
 use storage::{cell_at, reset};
 
 // Where the machine goes after an instruction.
-#[derive(Drop)]
+#[derive(Clone, Copy)]
 pub enum Move {
     // To a later instruction.
     On(Instr),

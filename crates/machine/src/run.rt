@@ -6,7 +6,7 @@ use base::kinds::Instr;
 use base::shape::Shape;
 
 // How a run from an instruction ended.
-#[derive(Drop)]
+#[derive(Clone, Copy)]
 pub enum Ran {
     // Its part ended, with so many steps left.
     Back(u32),

@@ -1,4 +1,6 @@
 // Builds the set of the mix tank program, and compares the set and the program with the published formulas on every storage.
+#![tactic(auto)]
+
 mod compare;
 mod published;
 

@@ -8,7 +8,7 @@ use storage::bits::{both, either, opposite};
 use storage::{copy_cells, put_cell, reset};
 
 // The variables, a bit each, in the order of their numbers: 7 inputs, 4 outputs, 2 memory bits.
-#[derive(Drop)]
+#[derive(Clone, Copy)]
 struct Tank {
     clr: u8,
     dn: u8,

@@ -12,7 +12,7 @@ use base::kinds::{Cell, Row};
 use base::shape::Shape;
 
 // R16 to R19: what becomes of the stack: each cell is kept, gets what the cell before it has, what the cell after it has, or 0.
-#[derive(Drop)]
+#[derive(Clone, Copy)]
 pub enum Move {
     Kept,
     Pushed,
@@ -22,7 +22,7 @@ pub enum Move {
 
 // R16 to R19: what an instruction gives the cells: its move of the stack, then one cell gets what another has, then the main cell
 // gets the row that was added.
-#[derive(Drop)]
+#[derive(Clone, Copy)]
 pub struct Change {
     pub stack: Move,
     pub source: Cell,

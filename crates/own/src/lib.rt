@@ -1,4 +1,6 @@
 // An instruction's own set: the rows of its main expression added to a table, and the heads (R37).
+#![tactic(auto)]
+
 pub mod heads;
 pub mod mains;
 

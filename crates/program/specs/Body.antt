@@ -10,7 +10,7 @@ use Rattle.rules.specs.Shape.{Shape, vars}
 use Rattle.rules.specs.Expr.{read_expr}
 use Rattle.rules.specs.Instr.{plain}
 use Rattle.rules.specs.ProgramFile.{Form, alone, with_expr, with_var, with_label, unknown, codes, form_of, writable, read_body}
-use Rattle.program.specs.Contracts.{ends, variable_at, label_at, alone_at, body_read}
+use Rattle.program.specs.Stages.{ends, variable_at, label_at, alone_at, body_read}
 use Rattle.program.specs.Chains.{ends-made, ends-checked}
 use Rattle.program.specs.Codes.{Kinded, kinded}
 use Rattle.reader.specs.Bodies.{taken, body_in, kind_of, alike, in_run}

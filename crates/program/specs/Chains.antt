@@ -2,7 +2,7 @@
 use Rattle.std.specs.Prelude.{ℕ, ◌≡◌, refl, Bool, true, false}
 use Rattle.rules.specs.Verdict.{Verdict, granted, refused, refuse_if, ◌>>=◌}
 use Rattle.rules.specs.Expr.{Read}
-use Rattle.program.specs.Contracts.{ends}
+use Rattle.program.specs.Stages.{ends}
 
 -- Where a chain ends is known from where its first part ends.
 pub ends_then : {A B : Type 0} (m : Verdict (Read A)) (g : Read A → Verdict (Read B)) (h : ℕ → Verdict ℕ)

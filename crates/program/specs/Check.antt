@@ -14,7 +14,7 @@ use Rattle.program.specs.declared.Checked.{Checked}
 use Rattle.program.specs.declared.Checked.TheVariants.{Granted, Refused}
 use Rattle.program.specs.declared.header.Headed.{Headed}
 use Rattle.program.specs.declared.header.Headed.TheVariants as H
-use Rattle.program.specs.Contracts.{checked_verdict, check_of, head_verdict, read_rest, instrs_of}
+use Rattle.program.specs.Stages.{checked_verdict, check_of, head_verdict, read_rest, instrs_of}
 
 module _ (file : List ℕ) (r : Headed) (h : head_verdict r ≡ read_header old 1 file) where
   -- R48: a header that is refused is the answer.

@@ -12,7 +12,7 @@ use Rattle.program.specs.declared.expr.Walked.{Walked}
 use Rattle.program.specs.declared.expr.Walked.TheVariants.{To, Refused}
 use Rattle.program.specs.declared.expr.Operands.{Operands}
 use Rattle.program.specs.declared.expr.Operands.TheVariants.{Zero, One, Two, Bad}
-use Rattle.program.specs.Contracts.{walked_verdict, ends, operands_of}
+use Rattle.program.specs.Stages.{walked_verdict, ends, operands_of}
 use Rattle.program.specs.Chains.{ends_then, ends-made}
 
 -- R11, R48: what reading the expression at p answers, however deep nesting may go, and that it moves on.

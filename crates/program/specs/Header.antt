@@ -10,7 +10,7 @@ use Rattle.base.specs.Answers.{shape_of, refused_by}
 use Rattle.base.specs.declared.refusal.Refusal.{Refusal}
 use Rattle.program.specs.declared.Checked.{Checked}
 use Rattle.program.specs.declared.Checked.TheVariants.{Granted, Refused}
-use Rattle.program.specs.Contracts.{checked_verdict}
+use Rattle.program.specs.Stages.{checked_verdict}
 
 -- R1, R46: the depth, then the number of variables.
 module _ (sh : Shape) (d : Bool) (e : d ≡ (leb 2 sh.depth && leb sh.depth 16)) where

@@ -11,7 +11,7 @@ use Rattle.laws.specs.Verdict.{Grants, grants-map}
 use Rattle.laws.specs.Decode.{instrs_stand}
 use Rattle.reader.specs.declared.body.Body.{Body}
 use Rattle.reader.specs.declared.body.Body.TheVariants.{Alone, Value, Variable, Label}
-use Rattle.program.specs.Contracts.{instr_in, is_end_body, last_at}
+use Rattle.program.specs.Stages.{instr_in, is_end_body, last_at}
 use Rattle.program.specs.Codes.{on_label, Tells, body_tells}
 
 -- R10: no code with a label is END's.

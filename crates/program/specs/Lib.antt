@@ -1,5 +1,5 @@
 -- What the crate's contracts say, and the laws that their proofs cite.
-pub mod Contracts
+pub mod Stages
 pub mod Chains
 pub mod Header
 pub mod Expr

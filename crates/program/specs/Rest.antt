@@ -18,7 +18,7 @@ use Rattle.reader.specs.Bodies.{body_in}
 use Rattle.program.specs.declared.Checked.{Checked}
 use Rattle.program.specs.declared.expr.Walked.{Walked}
 use Rattle.program.specs.declared.expr.Walked.TheVariants.{To, Refused}
-use Rattle.program.specs.Contracts.{checked_verdict, walked_verdict, ends, Contents, instr_in, is_end_body, last_at, closed, read_rest, instrs_of}
+use Rattle.program.specs.Stages.{checked_verdict, walked_verdict, ends, Contents, instr_in, is_end_body, last_at, closed, read_rest, instrs_of}
 use Rattle.program.specs.Last.{Closing, instrs_closing}
 
 -- Two checks that hand back nothing.

@@ -14,7 +14,7 @@ use Rattle.laws.specs.Decode.{Decodes, read-decodes}
 use Rattle.base.specs.declared.shape.Shape.{Shape}
 use Rattle.base.specs.Answers.{shape_of}
 use Rattle.reader.specs.declared.body.Body.{Body}
-use Rattle.program.specs.Contracts.{check_of, instr_in}
+use Rattle.program.specs.Stages.{check_of, instr_in}
 use Rattle.program.specs.Codes.{Tells, body_tells}
 
 -- The program of an accepted file.
@@ -92,4 +92,4 @@ module _ (file : List ℕ) (sh : Shape) (n i : ℕ) (r : Standing file sh n i) w
   pub tells : (b : Body) → b ≡ instr_in file n i → Tells file (vars (shape_of sh)) n i (instr_at file i) b
   tells b e =
       let s = (decodes file r.accepted).stands i (omega (arith, r.low, r.count)) in
-      rw (e, r.shaped, r.count) (body_tells file (program_in file).shape _ i _ (instr_at file i) s.inside s.says)
+      rw (e, ap vars r.shaped, r.count) (body_tells file (program_in file).shape _ i _ (instr_at file i) s.inside s.says)

@@ -12,7 +12,7 @@ use Rattle.base.specs.Answers.{refused_by}
 use Rattle.base.specs.declared.refusal.Refusal.{Refusal}
 use Rattle.program.specs.declared.expr.Walked.{Walked}
 use Rattle.program.specs.declared.expr.Walked.TheVariants.{To, Refused}
-use Rattle.program.specs.Contracts.{walked_verdict, ends}
+use Rattle.program.specs.Stages.{walked_verdict, ends}
 use Rattle.program.specs.Chains.{ends_then, ends-made}
 
 -- R9, R48: instruction i of n, whose body must stand at p; b is where its entry leads.

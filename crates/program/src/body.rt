@@ -4,7 +4,7 @@ ghost use Rattle.rules.specs.Edition.{old};
 ghost use Rattle.rules.specs.Lists.{number_at};
 ghost use Rattle.rules.specs.ProgramFile.{writable, entry_at, body_at};
 ghost use Rattle.base.specs.Answers.{shape_of};
-ghost use Rattle.program.specs.Contracts.{walked_verdict, ends, variable_at, label_at, alone_at, body_read, instr_in, farthest};
+ghost use Rattle.program.specs.Stages.{walked_verdict, ends, variable_at, label_at, alone_at, body_read, instr_in, farthest};
 
 use crate::expr::{Walked, read_expr};
 use base::bytes::word;

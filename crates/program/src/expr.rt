@@ -1,21 +1,21 @@
 // The expressions of a program file (R11).
 ghost use Rattle.std.specs.Prelude.{◌≡◌};
 ghost use Rattle.rules.specs.Expr.{announced};
-ghost use Rattle.program.specs.Contracts.{operands_of};
+ghost use Rattle.program.specs.Stages.{operands_of};
 ghost use Rattle.program.specs.Expr.{Skips};
 
 use base::refusal::Refusal;
 use reader::read_at;
 
 // The place after what was read, or what is wrong with it.
-#[derive(Drop)]
+#[derive(Clone, Copy)]
 pub enum Walked {
     To(usize),
     Refused(Refusal),
 }
 
 // R11: how many operands follow the first byte of an expression.
-#[derive(Drop)]
+#[derive(Clone, Copy)]
 pub enum Operands {
     Zero,
     One,

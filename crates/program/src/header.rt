@@ -3,14 +3,14 @@ ghost use Rattle.std.specs.Prelude.{◌≡◌, ◌&&◌, ◌≤◌, leb, length}
 ghost use Rattle.rules.specs.Edition.{old};
 ghost use Rattle.rules.specs.Shape.{check_shape, shape_at, read_header};
 ghost use Rattle.base.specs.Answers.{shape_of};
-ghost use Rattle.program.specs.Contracts.{checked_verdict, head_verdict};
+ghost use Rattle.program.specs.Stages.{checked_verdict, head_verdict};
 
 use crate::Checked;
 use base::refusal::Refusal;
 use base::shape::Shape;
 
 // The shape that a header gives, or what is wrong with the header.
-#[derive(Drop)]
+#[derive(Clone, Copy)]
 pub enum Headed {
     With(Shape),
     Refused(Refusal),

@@ -1,18 +1,20 @@
 // Checks a program file (R8 to R14, R48).
+#![tactic(auto)]
+
 pub mod body;
 pub mod expr;
 pub mod header;
 pub mod walk;
 
 ghost use Rattle.std.specs.Prelude.{◌≡◌};
-ghost use Rattle.program.specs.Contracts.{checked_verdict, check_of};
+ghost use Rattle.program.specs.Stages.{checked_verdict, check_of};
 
 use crate::header::{Headed, read_header};
 use crate::walk::check_instrs;
 use base::refusal::Refusal;
 
 // R46, R65: a check is granted and hands back nothing more, or it is refused.
-#[derive(Drop)]
+#[derive(Clone, Copy)]
 pub enum Checked {
     Granted,
     Refused(Refusal),

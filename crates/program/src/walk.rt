@@ -3,7 +3,7 @@ ghost use Rattle.std.specs.Prelude.{◌≡◌, ◌≤◌, ◌<◌, length};
 ghost use Rattle.rules.specs.Edition.{old};
 ghost use Rattle.rules.specs.ProgramFile.{entry_at, read_instr, read_instrs};
 ghost use Rattle.base.specs.Answers.{shape_of};
-ghost use Rattle.program.specs.Contracts.{checked_verdict, walked_verdict, ends, Contents, is_end_body, closed, instrs_of};
+ghost use Rattle.program.specs.Stages.{checked_verdict, walked_verdict, ends, Contents, is_end_body, closed, instrs_of};
 
 use crate::Checked;
 use crate::body::{body_at, read_body};

@@ -6,7 +6,7 @@ use Rattle.rules.specs.Verdict.{Verdict, granted, refused, ◌>>=◌}
 use Rattle.rules.specs.Operations.{storage_bytes, storage_after, output_after}
 use Rattle.base.specs.Answers.{refused_by}
 use Rattle.base.specs.declared.refusal.Refusal.{Refusal}
-use Rattle.writer.specs.Contracts.{length_of}
+use Rattle.writer.specs.Writes.{length_of}
 
 -- Of an operation that writes: the bytes at the front of the output are those that the rules hand back, and the rest is as it was.
 pub record Wrote (v : Verdict (List ℕ)) (n : ℕ) (before after : List ℕ) : Type 0 where

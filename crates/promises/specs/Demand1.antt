@@ -13,7 +13,7 @@ use Rattle.rules.specs.Room.{room, heads_to_build, numbers_to_compose, values_to
 use Rattle.rules.specs.Operations.{check_storage, evaluate_set, set_of, composed, unchanging_set, write_into, finish, scan, build, evaluate, same_shape, compose, blamed, write_unchanging}
 use Rattle.base.specs.Answers.{refused_by}
 use Rattle.base.specs.declared.refusal.Refusal.{Refusal}
-use Rattle.program.specs.Contracts.{checked_verdict, check_of}
+use Rattle.program.specs.Stages.{checked_verdict, check_of}
 use Rattle.program.specs.Check.{check_only}
 use Rattle.program.specs.declared.Checked.{Checked}
 use Rattle.program.specs.declared.Checked.TheVariants as C
@@ -21,12 +21,12 @@ use Rattle.machine.specs.Scan.{Scans}
 use Rattle.machine.specs.ScanLaws.{scan_only}
 use Rattle.machine.specs.declared.Scanned.{Scanned}
 use Rattle.machine.specs.declared.Scanned.TheVariants as M
-use Rattle.sets.specs.Contracts.{set_verdict}
+use Rattle.sets.specs.Judging.{set_verdict}
 use Rattle.sets.specs.Answer.{set-refused, check_set_only}
 use Rattle.evaluate.specs.Evaluate.{Evaluates, evaluate_only}
 use Rattle.evaluate.specs.declared.values.Evaluated.{Evaluated}
 use Rattle.evaluate.specs.declared.values.Evaluated.TheVariants as E
-use Rattle.writer.specs.Contracts.{Writes, writes_only}
+use Rattle.writer.specs.Writes.{Writes, writes_only}
 use Rattle.writer.specs.declared.Written.{Written}
 use Rattle.writer.specs.declared.Written.TheVariants as W
 use Rattle.compose.specs.Contract.{Composes, composed_verdict, blames, compose_only}

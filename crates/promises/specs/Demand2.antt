@@ -21,11 +21,11 @@ use Rattle.laws.specs.Bytes.{Bytes}
 use Rattle.laws.specs.Machine.{scan-whole}
 use Rattle.laws.specs.SetFile.{read_write, read_proper, write_read}
 use Rattle.laws.specs.Files.{old_sensible, storage-bits}
-use Rattle.program.specs.Contracts.{checked_verdict}
+use Rattle.program.specs.Stages.{checked_verdict}
 use Rattle.program.specs.declared.Checked.TheVariants as C
 use Rattle.machine.specs.Scan.{Scans}
 use Rattle.machine.specs.declared.Scanned.TheVariants as M
-use Rattle.sets.specs.Contracts.{set_verdict}
+use Rattle.sets.specs.Judging.{set_verdict}
 use Rattle.build.specs.Contract.{Builds}
 use Rattle.build.specs.declared.Built.TheVariants as B
 use Rattle.promises.specs.Answers.{Granted, granted_so}

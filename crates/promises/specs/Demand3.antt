@@ -18,7 +18,7 @@ use Rattle.machine.specs.Scan.{Scans}
 use Rattle.machine.specs.declared.Scanned.TheVariants as M
 use Rattle.evaluate.specs.Evaluate.{Evaluates}
 use Rattle.evaluate.specs.declared.values.Evaluated.TheVariants.{Done}
-use Rattle.writer.specs.Contracts.{Writes}
+use Rattle.writer.specs.Writes.{Writes}
 use Rattle.writer.specs.declared.Written.TheVariants as W
 use Rattle.compose.specs.Contract.{Composes}
 use Rattle.compose.specs.Unchanging.{composed-front, still-first, still-second}

@@ -8,7 +8,7 @@ use base::bytes::wide;
 use base::kinds::{Cell, Instr};
 
 // R10: a code, and what follows it.
-#[derive(Drop)]
+#[derive(Clone, Copy)]
 pub enum Body {
     // Nothing; or there is no such code.
     Alone(u8),

@@ -1,10 +1,12 @@
 // The one reader of instruction bodies: it holds a program file and its place (R10, R11).
+#![tactic(auto)]
+
 pub mod body;
 
 ghost use Rattle.std.specs.Prelude.{◌≡◌, get_or};
 
 // A program file, and a place in it.
-#[derive(Drop)]
+#[derive(Clone, Copy)]
 pub struct Reader<'a> {
     pub file: &'a [u8],
     pub at: usize,

@@ -1,4 +1,6 @@
 // One set after another over one table in a lent slice (R34): the second set's rows are carried to their own table.
+#![tactic(auto)]
+
 ghost use Rattle.std.specs.Prelude.{◌≡◌, false, ◌∷◌, map, ◌+◌, ◌<◌, length, get_or};
 ghost use Rattle.base.specs.Answers.{shape_of};
 ghost use Rattle.rows.specs.Entries.{node_row};

@@ -12,7 +12,7 @@ use base::kinds::Row;
 use table::{Table, append_to};
 
 // The row that was asked for, and the table after. The row means nothing if the table is refused.
-#[derive(Drop)]
+#[derive(Clone, Copy)]
 pub struct Added {
     pub row: Row,
     pub table: Table,

@@ -7,7 +7,7 @@ use crate::node::Node;
 use base::kinds::Row;
 
 // R28 to R30: the result is this row already; or this row is looked for, and appended if there is none.
-#[derive(Drop)]
+#[derive(Clone, Copy)]
 pub enum Plan {
     Have(Row),
     Make(Node),

@@ -17,8 +17,8 @@ use Rattle.program.specs.declared.Checked.TheVariants.{Granted}
 use Rattle.program.specs.declared.header.Headed.{Headed}
 use Rattle.program.specs.declared.header.Headed.TheVariants as H
 use Rattle.program.specs.Check.{answer_of, answer_back}
-use Rattle.program.specs.Contracts.{checked_verdict, head_verdict}
-use Rattle.sets.specs.Contracts.{set_verdict, rest_verdict}
+use Rattle.program.specs.Stages.{checked_verdict, head_verdict}
+use Rattle.sets.specs.Judging.{set_verdict, rest_verdict}
 use Rattle.sets.specs.Spelt.{rows_in, set_with}
 
 -- ---- the header, and what follows it

@@ -10,9 +10,9 @@ use Rattle.rules.specs.Shape.{Shape, cells}
 use Rattle.rules.specs.SetFile.{leaves, head_at, row_place, spelt, fits, named, check_rows}
 use Rattle.laws.specs.Lists.{Searching, searching_hit, searching_end}
 use Rattle.program.specs.declared.Checked.{Checked}
-use Rattle.program.specs.Contracts.{checked_verdict}
+use Rattle.program.specs.Stages.{checked_verdict}
 use Rattle.sets.specs.Spelt.{spelt-head}
-use Rattle.sets.specs.Contracts.{Whole, rest_verdict, bad_head, unfit, unnamed, Among, FitBefore}
+use Rattle.sets.specs.Judging.{Whole, rest_verdict, bad_head, unfit, unnamed, Among, FitBefore}
 use Rattle.sets.specs.Spelt.{rows_in, set_with}
 
 -- ---- the first head that is no row

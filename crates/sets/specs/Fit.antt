@@ -19,7 +19,7 @@ use Rattle.laws.specs.Fits.{all_below_lem, makes_true, fits_true}
 use Rattle.laws.specs.Rule.{made-ready}
 use Rattle.laws.specs.Search.{none_to_last}
 use Rattle.sets.specs.Spelt.{sized_inside, spelt_row, row-leaf, row-bytes, spelt-row, spelt-length}
-use Rattle.sets.specs.Contracts.{Whole, Among, Made, same_at}
+use Rattle.sets.specs.Judging.{Whole, Among, Made, same_at}
 use Rattle.sets.specs.Spelt.{rows_in, set_with}
 
 -- Tests that hold together are the same.

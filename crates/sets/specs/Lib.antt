@@ -1,6 +1,6 @@
 -- What a set file spells, and its check.
 pub mod Spelt
-pub mod Contracts
+pub mod Judging
 pub mod Fit
 pub mod Naming
 pub mod Check

@@ -16,7 +16,7 @@ use Rattle.laws.specs.Named.{named-row}
 use Rattle.laws.specs.Search.{elem-none, operands-none}
 use Rattle.sets.specs.Spelt.{spelt-length, spelt-head, spelt-heads}
 use Rattle.sets.specs.Fit.{at-bytes}
-use Rattle.sets.specs.Contracts.{Among}
+use Rattle.sets.specs.Judging.{Among}
 use Rattle.sets.specs.Spelt.{rows_in, set_with}
 
 -- ---- heads

@@ -5,8 +5,8 @@ ghost use Rattle.rules.specs.Lists.{seek};
 ghost use Rattle.rules.specs.Shape as S;
 ghost use Rattle.rules.specs.SetFile.{check_rows};
 ghost use Rattle.base.specs.Answers.{shape_of};
-ghost use Rattle.program.specs.Contracts.{checked_verdict};
-ghost use Rattle.sets.specs.Contracts.{Whole, rest_verdict, bad_head, unfit, unnamed};
+ghost use Rattle.program.specs.Stages.{checked_verdict};
+ghost use Rattle.sets.specs.Judging.{Whole, rest_verdict, bad_head, unfit, unnamed};
 ghost use Rattle.sets.specs.Spelt.{rows_in, set_with};
 
 use crate::fit::row_fits;

@@ -6,7 +6,7 @@ ghost use Rattle.rules.specs.SetFile as F;
 ghost use Rattle.laws.specs.Canonical.{Below};
 ghost use Rattle.base.specs.Answers.{shape_of};
 ghost use Rattle.rows.specs.Entries.{node_row, plan_row};
-ghost use Rattle.sets.specs.Contracts.{Whole, Among, FitBefore, Made, same_at};
+ghost use Rattle.sets.specs.Judging.{Whole, Among, FitBefore, Made, same_at};
 ghost use Rattle.sets.specs.Spelt.{rows_in, set_with};
 
 use crate::read::{row_in, row_place};

@@ -1,12 +1,14 @@
 // Checks a set file, and reads its parts (R41 to R44, R49).
+#![tactic(auto)]
+
 pub mod check;
 pub mod fit;
 pub mod naming;
 pub mod read;
 
 ghost use Rattle.std.specs.Prelude.{◌≡◌};
-ghost use Rattle.program.specs.Contracts.{checked_verdict};
-ghost use Rattle.sets.specs.Contracts.{set_verdict};
+ghost use Rattle.program.specs.Stages.{checked_verdict};
+ghost use Rattle.sets.specs.Judging.{set_verdict};
 
 use crate::check::check_rest;
 use program::Checked;

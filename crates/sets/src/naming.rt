@@ -6,7 +6,7 @@ ghost use Rattle.rules.specs.Sets.{operands};
 ghost use Rattle.rules.specs.SetFile.{row_in, named};
 ghost use Rattle.base.specs.Answers.{shape_of};
 ghost use Rattle.rows.specs.Entries.{node_row};
-ghost use Rattle.sets.specs.Contracts.{Whole, Among};
+ghost use Rattle.sets.specs.Judging.{Whole, Among};
 ghost use Rattle.sets.specs.Spelt.{set_with};
 
 use crate::fit::rows_to;

@@ -9,7 +9,7 @@ use rows::node::Node;
 use table::Table;
 
 // The row of an expression with the table after it was added, and the place after the expression.
-#[derive(Drop)]
+#[derive(Clone, Copy)]
 pub struct Grown {
     pub added: Added,
     pub next: usize,

@@ -1,4 +1,6 @@
 // The cells of a storage as lent bytes: read, stored to, the stack moved, checked (R3, R16, R17, R19, R50).
+#![tactic(auto)]
+
 pub mod bits;
 
 ghost use Rattle.std.specs.Prelude.{◌≡◌, ◌+◌, ◌<◌, length, get_or, set};
@@ -19,7 +21,7 @@ pub fn cell_at(s: &[u8], c: Cell) -> u8
 
 // R16: one cell gets a bit, and every other is kept.
 pub fn put_cell(s: &mut [u8], c: Cell, bit: u8)
-    requires* { do ⌜ c.0 < (← ⟦s.len()⟧) ⌝ }
+    requires { c.0 < length s.old }
     ensures { s.new ≡ set s.old c.0 bit }
 {
     let at = c.0 as usize;
@@ -28,7 +30,7 @@ pub fn put_cell(s: &mut [u8], c: Cell, bit: u8)
 
 // R19: a bit comes on top of the stack, which begins after the flag. Each cell of it moves on by one, and the last is lost.
 pub fn push(s: &mut [u8], flag: Cell, bit: u8)
-    requires* { do ⌜ flag.0 + 1 < (← ⟦s.len()⟧) ⌝ }
+    requires { flag.0 + 1 < length s.old }
     ensures { s.new ≡ push_on flag.0 bit s.old }
 {
     let mut held = bit;
@@ -43,7 +45,7 @@ pub fn push(s: &mut [u8], flag: Cell, bit: u8)
 
 // R19: the top of the stack is taken off. Each cell after it moves back by one, and the last becomes 0.
 pub fn drop_top(s: &mut [u8], flag: Cell)
-    requires* { do ⌜ flag.0 + 1 < (← ⟦s.len()⟧) ⌝ }
+    requires { flag.0 + 1 < length s.old }
     ensures { s.new ≡ drop_top flag.0 s.old }
 {
     let last = s.len() - 1;
@@ -57,7 +59,7 @@ pub fn drop_top(s: &mut [u8], flag: Cell)
 
 // R17: the flag becomes 1, and every cell of the stack 0.
 pub fn reset(s: &mut [u8], flag: Cell)
-    requires* { do ⌜ flag.0 < (← ⟦s.len()⟧) ⌝ }
+    requires { flag.0 < length s.old }
     ensures { s.new ≡ reset_from flag.0 s.old }
 {
     let at = flag.0 as usize;
@@ -82,7 +84,7 @@ pub fn copy_cells(from: &[u8], to: &mut [u8])
 }
 
 // R50: whether lent bytes are a storage.
-#[derive(Drop)]
+#[derive(Clone, Copy)]
 pub enum Cells {
     Good,
     Refused(Refusal),

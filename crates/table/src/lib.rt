@@ -1,10 +1,12 @@
 // The state of a row table, lent to the one function that appends (R53, R54).
+#![tactic(auto)]
+
 ghost use Rattle.std.specs.Prelude.{◌≡◌};
 ghost use Rattle.rules.specs.Room.{room};
 ghost use Rattle.table.specs.Append.{Appends};
 
 // How many rows are used, and whether an append found none left.
-#[derive(Drop)]
+#[derive(Clone, Copy)]
 pub struct Table {
     pub used: usize,
     pub refused: bool,

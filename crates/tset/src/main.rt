@@ -1,4 +1,6 @@
 // Prints the transfer set of the program file on standard input, or its refusal (R64).
+#![tactic(auto)]
+
 ghost use Rattle.std.specs.Prelude.{◌≡◌, ◌≤◌, length, take};
 ghost use Rattle.rules.specs.Lines as R;
 

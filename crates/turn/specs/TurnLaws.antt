@@ -21,7 +21,7 @@ use Rattle.laws.specs.Transfer.{Made, made-from, turn-from}
 use Rattle.base.specs.Answers.{shape_of}
 use Rattle.base.specs.declared.shape.Shape.{Shape}
 use Rattle.base.specs.declared.kinds.Instr as K
-use Rattle.program.specs.Contracts.{instr_in}
+use Rattle.program.specs.Stages.{instr_in}
 use Rattle.program.specs.Codes.{on_label, Tells}
 use Rattle.program.specs.Standing.{program_in, instr_at, Standing, standing-at, formed, deep, most-cells, tells}
 use Rattle.table.specs.declared.Table.{Table}

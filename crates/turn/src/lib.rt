@@ -1,4 +1,6 @@
 // The turn of one instruction: the heads of T(i) over one table (R38).
+#![tactic(auto)]
+
 ghost use Rattle.std.specs.Prelude.{◌≡◌, ◌+◌, ◌*◌, ◌≤◌, length};
 ghost use Rattle.base.specs.Answers.{shape_of};
 ghost use Rattle.rows.specs.Making.{Drawn};

@@ -1,4 +1,6 @@
 // T(i) from the last instruction up: one turn for each instruction, in one table (R38).
+#![tactic(auto)]
+
 ghost use Rattle.std.specs.Prelude.{◌+◌, ◌≤◌, length};
 ghost use Rattle.rules.specs.Room.{room};
 ghost use Rattle.turn.specs.Turning.{Turning, Building};

@@ -17,7 +17,7 @@ use Rattle.rows.specs.Making.{Drawn}
 use Rattle.reach.specs.Tabled.{Tabled}
 use Rattle.writer.specs.declared.Written.{Written}
 use Rattle.writer.specs.declared.Written.TheVariants.{Refused}
-use Rattle.writer.specs.Contracts.{Writes}
+use Rattle.writer.specs.Writes.{Writes}
 
 -- Heads of the rules that the state stands for, of an allowed shape, with a number for each row used.
 pub record Finishing (sh : Shape) (heads rows : List ℕ) (s : Table) (numbers : ℕ) : Type 0 where

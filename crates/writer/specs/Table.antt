@@ -25,7 +25,7 @@ use Rattle.laws.specs.Squeeze.{ren, Packed, packed}
 use Rattle.base.specs.declared.refusal.Refusal.TheVariants.{NoRoom}
 use Rattle.rows.specs.Entries.{table_in}
 use Rattle.writer.specs.declared.Written.TheVariants.{Length, Refused}
-use Rattle.writer.specs.Contracts.{Writes}
+use Rattle.writer.specs.Writes.{Writes}
 use Rattle.reach.specs.Tabled.{Tabled}
 use Rattle.writer.specs.Put.{put_at, new_heads}
 use Rattle.writer.specs.Kept.{kept, kept_at, kept-one, AllFit}

@@ -23,7 +23,7 @@ use Rattle.base.specs.declared.refusal.Refusal.{Refusal}
 use Rattle.base.specs.declared.refusal.Refusal.TheVariants.{NoRoom}
 use Rattle.writer.specs.declared.Written.{Written}
 use Rattle.writer.specs.declared.Written.TheVariants.{Length, Refused}
-use Rattle.writer.specs.Contracts.{Writes}
+use Rattle.writer.specs.Writes.{Writes}
 use Rattle.writer.specs.Put.{put_at, put-put, put_whole}
 
 -- ---- a set and its bytes

@@ -1,4 +1,6 @@
 // Writes a set file: heads over a table, or the set that changes nothing (R36, R41, R58, R59).
+#![tactic(auto)]
+
 pub mod put;
 
 ghost use Rattle.std.specs.Prelude.{◌≡◌, length};
@@ -10,7 +12,7 @@ ghost use Rattle.rules.specs.Operations.{set_of, unchanging_set, write_into, wri
 ghost use Rattle.laws.specs.After.{over};
 ghost use Rattle.base.specs.Answers.{shape_of};
 ghost use Rattle.rows.specs.Entries.{table_in};
-ghost use Rattle.writer.specs.Contracts.{Writes};
+ghost use Rattle.writer.specs.Writes.{Writes};
 ghost use Rattle.writer.specs.Finish.{Finishing, Finishes};
 ghost use Rattle.reach.specs.Tabled.{Tabled};
 
@@ -23,7 +25,7 @@ use reach::number::number_reached;
 use table::{Table, room_in};
 
 // How writing a set ended.
-#[derive(Drop)]
+#[derive(Clone, Copy)]
 pub enum Written {
     Length(usize),
     Refused(Refusal),

@@ -1,5 +1,5 @@
 use mathlib.Core.Path.{ap, sym, ◌∙◌}
-use Rattle.program.specs.Contracts.{checked_verdict}
+use Rattle.program.specs.Stages.{checked_verdict}
 use Rattle.sets.specs.Answer.{set-accepted}
 use Rattle.lines.specs.Room.{set-fits, refusal_fits}
 use Rattle.lines.specs.Answer.{set_prints, unread_prints}

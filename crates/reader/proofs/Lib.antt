@@ -1,2 +1,0 @@
--- What the walks over a `Reader` share.
-mod Parts

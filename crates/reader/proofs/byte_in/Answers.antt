@@ -1,0 +1,7 @@
+-- `byte_in` meets its contract: past the end there is 0.
+use mathlib.Core.Path.{sym}
+use lib.ListN.{get_or-eq_default}
+use Rattle.reader.proofs.byte_in.Goals as goal
+
+pub returns-else-at-file : goal.returns-else-at-file
+returns-else-at-file c = sym (get_or-eq_default c.args.file.now 0 c.if-at-file.false)
