@@ -12,7 +12,8 @@ use Rattle.base.specs.declared.kinds.Cell.{Cell}
 use Rattle.base.specs.declared.kinds.Instr.{Instr}
 use Rattle.base.specs.Answers.{shape_of}
 use Rattle.storage.specs.Cells.{bits_of, byte_of, Storage, reset_from, stored}
-use Rattle.storage.specs.Stores.{get_d_bits, bits_back, performed_storage, perform-stored}
+use Rattle.storage.specs.Stores.{get_d_bits, bits_back, performed_storage}
+use Rattle.storage.proofs.Stored.{perform-stored}
 use Rattle.machine.specs.declared.obey.Move.{Move}
 use Rattle.machine.specs.declared.obey.Move.TheVariants.{On, End}
 use Rattle.instruction.specs.declared.eval.Valued.{Valued}
