@@ -1,9 +1,10 @@
 -- The turn of one instruction: what its parts need, and a law for each end (R38).
 use Rattle.std.specs.Prelude.{ℕ, suc, ◌+◌, ◌-◌, ◌*◌, ◌≤◌, ◌<◌, ◌≡◌, refl, true, false, List, ◌∷◌, length}
-use Rattle.std.proofs.Common.{sym, ap, ◌∙◌, arith}
+use Rattle.std.proofs.Common.{sym, ap, subst, ◌∙◌, arith}
 use Rattle.std.proofs.Math.Decide.{dec_lt}
 use Rattle.rules.specs.Verdict.{granted}
 use Rattle.rules.specs.Edition.{old}
+use Rattle.rules.specs.Shape as R
 use Rattle.rules.specs.Shape.{vars, cells, check_shape}
 use Rattle.rules.specs.Instr.{Plain, INIT, Instr, plain, END}
 use Rattle.rules.specs.ProgramFile.{Program}
@@ -12,7 +13,7 @@ use Rattle.rules.specs.Build as B
 use Rattle.rules.specs.Build.{own, set_at, turn_heads, turn}
 use Rattle.rules.specs.Room.{room}
 use Rattle.laws.specs.Verdict.{no_false}
-use Rattle.laws.specs.Canonical.{Names, WellFormed}
+use Rattle.laws.specs.Canonical.{Names, WellFormed, Canonical}
 use Rattle.laws.specs.ProgramFile.{read-shape}
 use Rattle.laws.specs.Grow.{Ext, ext_refl, ext_length, grown_ext}
 use Rattle.laws.specs.After.{Stands, over, stands_ext}
@@ -82,13 +83,20 @@ module _ (file : List ℕ) (sh : Shape) (n i : ℕ) (rows : List ℕ) (s : Table
   made-on = made-from (program_in file) wf (suc i) (omega (arith, w.low, place.count))
 
   stands_at : (l : ℕ) → i < l → l < n → Stands C (over b.tab (set_at b (suc i) l))
-  stands_at l h k = rw place.shaped (made-on.stands l h (omega (arith, place.count)))
+  stands_at l h k =
+      subst (λ (x : R.Shape). Stands (cells x) (over b.tab (set_at b (suc i) l))) (sym place.shaped)
+      (made-on.stands l h (omega (arith, place.count)))
+
+  canonical : Canonical C b.tab
+  canonical = subst (λ (x : R.Shape). Canonical (cells x) b.tab) (sym place.shaped) made-on.canonical
 
   slot_is : (l : ℕ) → i < l → l < n → slot C heads l ≡ set_at b (suc i) l
   slot_is l h k = w.built-on.slots w.kept l h k
 
   shaped : check_shape old (shape_of sh) ≡ granted tt
-  shaped = rw place.shaped (read-shape old file (program_in file) place.accepted)
+  shaped =
+      subst (λ (x : R.Shape). check_shape old x ≡ granted tt) (sym place.shaped)
+      (read-shape old file (program_in file) place.accepted)
 
   -- R38: the turn of instruction i, which is x.
   turn_as : (x : Instr) → instr_at file i ≡ x → turn_at file i ≡ turn_heads (shape_of sh) i x b.tab (set_at b (suc i))
@@ -128,7 +136,7 @@ module _ (file : List ℕ) (sh : Shape) (n i : ℕ) (rows : List ℕ) (s : Table
   fine : (p : Plain) → instr_at file i ≡ plain p → Names (vars (shape_of sh)) p × (suc i < n)
   fine p x =
       let f = rw x at (wf.fine i (omega (arith, w.low, place.count))) in
-      (rw place.shaped f.0, omega (arith, f.1, place.count))
+      (subst (λ (x : R.Shape). Names (vars x) p) (sym place.shaped) f.0, omega (arith, f.1, place.count))
 
   -- What cutting out T(l) asks for.
   cut_in : (l : ℕ) → l < n → (c : ℕ) → c ≡ C → (l ≤ 512) × (c ≤ 217) × (l * c + c ≤ length heads)
@@ -144,14 +152,14 @@ module _ (file : List ℕ) (sh : Shape) (n i : ℕ) (rows : List ℕ) (s : Table
   owning = record {
     given = record {
       inside = record { deep = deep file sh n i place; most = most-cells file sh n i place };
-      opened = record { table = b.tab; canonical = rw place.shaped made-on.canonical; holds = w.built-on.holds };
+      opened = record { table = b.tab; canonical = canonical; holds = w.built-on.holds };
     };
     count = w.count;
   }
 
   module _ (p : Plain) (rows' : List ℕ) (s' : Table) (made' : List ℕ) (g : Owns (shape_of sh) p rows s rows' s' made') where
     owned : Drawn rows' s' made' (own b.tab (shape_of sh) p)
-    owned = g b.tab (rw place.shaped made-on.canonical) w.built-on.holds
+    owned = g b.tab canonical w.built-on.holds
 
     -- R38: END's turn is the own set of INIT.
     pub end_turned : p ≡ INIT → instr_at file i ≡ END → Drawn rows' s' made' (turn_at file i)
@@ -159,7 +167,7 @@ module _ (file : List ℕ) (sh : Shape) (n i : ℕ) (rows : List ℕ) (s : Table
 
     module _ (x : instr_at file i ≡ plain p) (y : List ℕ) (e : y ≡ slot C heads (i + 1)) where
       own-stands : Stands C (own b.tab (shape_of sh) p)
-      own-stands = (own_acts b.tab (shape_of sh) (deep file sh n i place) (rw place.shaped made-on.canonical) p (fine p x).0).stands
+      own-stands = (own_acts b.tab (shape_of sh) (deep file sh n i place) canonical p (fine p x).0).stands
 
       pub own-following : length made' ≡ length made → length rows' ≡ length rows → Following (shape_of sh) y rows' s' numbers made'
       own-following c size =
