@@ -1,13 +1,15 @@
 -- Building an accepted file or not: a law for each answer.
 use Rattle.std.specs.Prelude.{ℕ, ◌+◌, ◌*◌, ◌≤◌, ◌<◌, List, [], length, drop}
 use Rattle.std.proofs.Math.Path.{◌≡◌, ap}
-use Rattle.std.proofs.Common.{sym, ◌∙◌, drop_of_length-le}
+use Rattle.std.proofs.Common.{sym, subst, ◌∙◌, drop_of_length-le}
 use native.Mathlib.Omega.{arith}
 use Rattle.std.proofs.Math.ListN.{take}
 use borrow.Author.Tests.{lt-ltb, le-ltb}
 use Rattle.rules.specs.Verdict.{Verdict, granted, refused, ◌>>=◌}
 use Rattle.rules.specs.Edition.{old}
-use Rattle.rules.specs.Shape.{cells}
+use Rattle.rules.specs.Shape as R
+use Rattle.laws.specs.After.{Stands}
+use Rattle.rules.specs.Shape.{cells, check_shape}
 use Rattle.rules.specs.ProgramFile.{Program, read_program}
 use Rattle.rules.specs.Rows.{base}
 use Rattle.rules.specs.Build.{turns, transfer}
@@ -150,8 +152,10 @@ module _ (file : List ℕ) (sh : Shape) (n : ℕ) (rows : List ℕ) (s : Table) 
   finishing C e numbers l = record {
     made = transfer (program_in file);
     drawn = drawn C e;
-    stands = rw place.shaped (transfer-stands (program_in file) (formed file sh n 0 place));
-    shaped = rw place.shaped (read-shape old file (program_in file) place.accepted);
+    stands = subst (λ (x : R.Shape). Stands (cells x) (transfer (program_in file))) (sym place.shaped)
+        (transfer-stands (program_in file) (formed file sh n 0 place));
+    shaped = subst (λ (x : R.Shape). check_shape old x ≡ granted tt) (sym place.shaped)
+        (read-shape old file (program_in file) place.accepted);
     enough = λ f. omega (arith, (b.holds.kept f).held);
   }
 

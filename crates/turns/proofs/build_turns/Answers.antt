@@ -22,7 +22,7 @@ pub loop-i-preserved : goal.loop-i-preserved
 loop-i-preserved c =
     let v = c.loop-i.invariant in
     let k = c.build_turn-table.auto in
-    (c.build_turn-table.ensures, k.1.1.1.1.0 ∙ v.1, k.1.1.1.1.1.1.0 ∙ v.2, k.1.1.1.1.1.1.1.0 ∙ v.3)
+    (c.build_turn-table.ensures, k.rows ∙ v.1, k.numbers ∙ v.2, k.heads ∙ v.3)
 
 pub shape_of-rows : goal.shape_of-rows
 shape_of-rows c = c.loop-i.invariant.1
