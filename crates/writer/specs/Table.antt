@@ -31,7 +31,7 @@ use Rattle.writer.specs.Put.{put_at, new_heads}
 use Rattle.writer.specs.Kept.{kept, kept_at, kept-one, AllFit}
 use Rattle.rows.specs.Stored.{table-length, table-row}
 use Rattle.writer.specs.Write.{set-length, set-put, writes_short, writes_whole}
-use Rattle.reach.specs.Numbers.{Numbering, numbering, carried, Numbered, carried-op, carried_none, numbered}
+use Rattle.reach.specs.Numbers.{Numbering, numbering, carried, Numbered, carried-op, carried_none}
 
 -- Rows renumbered by lists that agree on their operands are the same.
 ren-same : (P : ℕ → Type 0) (m n : List ℕ) (k : ℕ) → ((a : ℕ) → a < k → P a → get_or m a 0 ≡ get_or n a 0)

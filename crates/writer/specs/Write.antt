@@ -1,5 +1,5 @@
 -- Writing a set whole: the bytes of the rules, or a refusal of a short output; and the set that changes nothing.
-use Rattle.std.specs.Prelude.{ℕ, ◌+◌, ◌*◌, ◌-◌, ◌≤◌, ◌<◌, ◌≡◌, drop}
+use Rattle.std.specs.Prelude.{ℕ, ◌+◌, ◌*◌, ◌≤◌, ◌<◌, ◌≡◌, drop}
 use Rattle.std.proofs.Math.Path.{refl, ap}
 use Rattle.std.proofs.Common.{◌∙◌, drop_of_length-le, lt-ltb, le-ltb}
 use mathlib.Core.List.{List, [], ◌++◌, flat_map}

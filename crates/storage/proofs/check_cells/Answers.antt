@@ -1,5 +1,4 @@
 -- `storage::check_cells`: no cell that was passed is above 1.
-use Prim.Native.Nat.{◌-◌}
 use mathlib.Core.Path.{sym}
 use native.Mathlib.Omega.{arith}
 use borrow.Author.Count.{below_more}

@@ -1,5 +1,4 @@
 -- `storage::copy_cells`: each turn copies one cell.
-use Prim.Native.Nat.{◌-◌}
 use native.Mathlib.Nat.{sub-zero}
 use native.Mathlib.Omega.{arith}
 use Rattle.storage.specs.Moves.{replacing_none, replacing_more, replacing_whole}

@@ -1,5 +1,4 @@
 -- `storage::drop_top`: each turn moves one cell of the stack back, and the last store makes the last cell 0.
-use Prim.Native.Nat.{◌-◌}
 use native.Mathlib.Omega.{arith}
 use Rattle.storage.specs.Moves.{replacing_none, dropping_more, dropping_all}
 use Rattle.storage.proofs.drop_top.Goals as goal

@@ -1,5 +1,4 @@
 -- `storage::push`: each turn stores the byte carried and takes up the one that stood there, until the end of the slice.
-use Prim.Native.Nat.{◌-◌}
 use native.Mathlib.Omega.{arith}
 use Rattle.storage.specs.Moves.{pushing_none, pushing_more, pushing_all}
 use Rattle.storage.proofs.push.Goals as goal

@@ -1,5 +1,4 @@
 -- `storage::reset`: each turn makes one cell of the stack 0, and the last store makes the flag 1.
-use Prim.Native.Nat.{◌-◌}
 use native.Mathlib.Omega.{arith}
 use Rattle.storage.specs.Moves.{replacing_none, resetting_more, resetting_all}
 use Rattle.storage.proofs.reset.Goals as goal

@@ -23,11 +23,10 @@ pub put_header-requires : goal.put_header-requires
 put_header-requires c = (omega arith, (shape-small (shape_of c.args.shape) c.requires.shaped).0)
 
 pub put_heads-requires : goal.put_heads-requires
-put_heads-requires c =
-    (
-      omega (arith, c.requires.stands.count, c.cells-cells.ensures),
-      table-heads c.requires c.cells-cells.ensures c.number_reached-next.ensures,
-    )
+put_heads-requires c = (
+  omega (arith, c.requires.stands.count, c.cells-cells.ensures),
+  table-heads c.requires c.cells-cells.ensures c.number_reached-next.ensures,
+)
 
 pub put_rows-requires : goal.put_rows-requires
 put_rows-requires c =

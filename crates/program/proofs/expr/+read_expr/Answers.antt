@@ -1,5 +1,4 @@
 -- `read_expr` meets its contract: a law for each answer.
-use Prim.Native.Nat.{◌-◌}
 use mathlib.Core.Path.{sym, ◌∙◌}
 use native.Mathlib.Omega.{arith}
 use Rattle.program.specs.Expr.{skip_stop, skip_short, skip-leaf, skip-one, skip-two, skip-refused, skip-bad}

@@ -1,4 +1,3 @@
-use Prim.Native.Nat.{◌-◌}
 use Rattle.base.specs.Answers.{shape_of}
 use Rattle.program.specs.Walk.{walk_start, walk_step, walk_refused, walk_done}
 use native.Mathlib.Omega.{arith}

@@ -1,5 +1,4 @@
 -- `writer::reach::mark_heads`: each turn marks one head, the last first.
-use Prim.Native.Nat.{◌-◌}
 use Rattle.reach.specs.Marks.{Heading}
 use Rattle.reach.proofs.mark.mark_heads.Given as goal
 

@@ -1,5 +1,4 @@
 -- `writer::number::number_rows`: each turn numbers one row.
-use Prim.Native.Nat.{◌-◌}
 use Rattle.reach.specs.Numbers.{counting_none, counting_more, counting_all}
 use native.Mathlib.Omega.{arith}
 use Rattle.reach.proofs.number.number_rows.Goals as goal

@@ -12,12 +12,11 @@ plan_node-requires c =
     ready_slice c.args.rows.now _ (node_row c.args.node) p.held p.ready
 
 pub settle-requires : goal.settle-requires
-settle-requires c =
-    (
-      make-addable _ _ c.args.node c.if-table.false _ c.plan_node.ensures _ c.in-Make.is
-          (c.requires c.if-table.false),
-      c.if-table.false,
-    )
+settle-requires c = (
+  make-addable _ _ c.args.node c.if-table.false _ c.plan_node.ensures _ c.in-Make.is
+      (c.requires c.if-table.false),
+  c.if-table.false,
+)
 
 pub returns-in-Have : goal.returns-in-Have
 returns-in-Have c = add-have _ _ c.args.node c.if-table.false _ c.plan_node.ensures _ c.in-Have.is _ refl refl

@@ -1,5 +1,4 @@
 -- `find_entry` meets its contract: no row that was passed is the one.
-use Prim.Native.Nat.{◌-◌}
 use native.Mathlib.Omega.{arith}
 use borrow.Author.Rules.{rules}
 use borrow.Author.Tests.{eq-eqb, ne_eqb}

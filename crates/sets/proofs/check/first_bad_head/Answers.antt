@@ -1,4 +1,3 @@
-use Prim.Native.Nat.{◌-◌}
 use Rattle.base.specs.Answers.{shape_of}
 use Rattle.laws.specs.Lists.{searching_start, searching_more}
 use Rattle.sets.specs.Check.{head-fine, head-bad, heads-good}

@@ -1,4 +1,4 @@
-use Prim.Native.Nat.{◌+◌, ◌-◌}
+use Prim.Native.Nat.{◌+◌}
 use mathlib.Core.Path.{sym, ap, ◌∙◌}
 use Rattle.base.specs.Answers.{shape_of}
 use Rattle.laws.specs.Lists.{searching_start, searching_more, searching_hit, searching_end}
@@ -23,7 +23,7 @@ row_fits-requires c =
       whole = c.requires;
       among = among c.args.file.now (shape_of c.args.shape) c.requires _ _ _ l w c.loop-j-test.true;
       fit_before = fit_before
-            c.args.file.now (shape_of c.args.shape) c.requires _ _ _ l w c.loop-j.invariant.0;
+          c.args.file.now (shape_of c.args.shape) c.requires _ _ _ l w c.loop-j.invariant.0;
     }
 
 pub returns-then-not-row_fits : goal.returns-then-not-row_fits

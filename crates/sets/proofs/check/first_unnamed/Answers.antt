@@ -1,4 +1,4 @@
-use Prim.Native.Nat.{◌+◌, ◌-◌}
+use Prim.Native.Nat.{◌+◌}
 use mathlib.Core.Path.{sym, ap, ◌∙◌}
 use Rattle.base.specs.Answers.{shape_of}
 use Rattle.laws.specs.Lists.{searching_start, searching_more, searching_hit, searching_end}

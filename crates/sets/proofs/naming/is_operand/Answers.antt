@@ -1,4 +1,3 @@
-use Prim.Native.Nat.{◌-◌}
 use mathlib.Core.Path.{sym, ◌∙◌}
 use Rattle.base.specs.Answers.{shape_of}
 use Rattle.laws.specs.Lists.{searching_start, searching_more}

@@ -1,5 +1,4 @@
 -- `writer::put::put_heads`: each turn writes one head.
-use Prim.Native.Nat.{◌-◌}
 use Rattle.writer.specs.Put.{words_none, head_more, head_all}
 use native.Mathlib.Omega.{arith}
 use Rattle.writer.proofs.put.put_heads.Goals as goal

@@ -1,5 +1,4 @@
 -- `writer::put::put_own_heads`: each turn writes one head.
-use Prim.Native.Nat.{◌-◌}
 use mathlib.Core.Path.{refl}
 use Rattle.writer.specs.Put.{words_none, own-more, own_all}
 use native.Mathlib.Omega.{arith}

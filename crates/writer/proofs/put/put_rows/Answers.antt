@@ -1,5 +1,4 @@
 -- `writer::put::put_rows`: each turn writes what is kept of one row.
-use Prim.Native.Nat.{◌-◌}
 use Rattle.writer.specs.Kept.{rowing_none, rowing_fits, rowing_more, rowing_all}
 use native.Mathlib.Omega.{arith}
 use Rattle.writer.proofs.put.put_rows.Goals as goal
