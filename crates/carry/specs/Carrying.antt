@@ -3,7 +3,6 @@ use Rattle.std.specs.Prelude.{ℕ, ◌+◌, ◌-◌, ◌≤◌, ◌<◌, ◌≡�
 use Rattle.rules.specs.Edition.{old}
 use Rattle.rules.specs.Lists.{number_at}
 use Rattle.rules.specs.Shape.{cells, shape_at}
-use Rattle.rules.specs.Room.{room}
 use Rattle.rules.specs.Rows.{Row, leaf, inv, bin, add}
 use Rattle.rules.specs.Sets.{Carried, carry}
 use Rattle.rules.specs.SetFile.{leaves, head_at}

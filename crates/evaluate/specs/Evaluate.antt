@@ -5,7 +5,7 @@ use borrow.Author.Tests.{lt-ltb, le-ltb}
 use Rattle.rules.specs.Verdict.{Verdict, granted, refused, ◌>>=◌}
 use Rattle.rules.specs.Edition.{old}
 use Rattle.rules.specs.Shape.{Shape, cells, shape_at}
-use Rattle.rules.specs.SetFile.{leaves, read_set}
+use Rattle.rules.specs.SetFile.{read_set}
 use Rattle.rules.specs.Operations.{check_storage, evaluate, storage_after}
 use Rattle.base.specs.Answers.{number_of, place_of, refused_by}
 use Rattle.base.specs.Refusals.{refusal_of, refusal_back}

@@ -11,7 +11,6 @@ use Rattle.rules.specs.Instr.{Plain, effect}
 use Rattle.rules.specs.Rows.{row_of_cell}
 use Rattle.laws.specs.Lists.{length_from, get_or-map-from}
 use Rattle.laws.specs.Own.{Simple, simple_row, own-one}
-use Rattle.base.specs.declared.shape.Shape.{Shape}
 use Rattle.table.specs.declared.Table.{Table}
 use Rattle.rows.specs.declared.adding.Added.{Added}
 use Rattle.own.specs.declared.heads.Change.{Change}

@@ -28,7 +28,7 @@ use Rattle.machine.specs.declared.Scanned.TheVariants as M
 use Rattle.sets.specs.Judging.{set_verdict}
 use Rattle.build.specs.Contract.{Builds}
 use Rattle.build.specs.declared.Built.TheVariants as B
-use Rattle.promises.specs.Answers.{Granted, granted_so}
+use Rattle.promises.specs.Answers.{granted_so}
 use Rattle.promises.specs.Demand1.{build-wrote, Ends, table-full, short_output, written, Room55, few-rows, few_numbers, few-heads, enough, build-room}
 
 -- R16: an instruction gives every cell the value of its expression in the one table, all from the storage before it.

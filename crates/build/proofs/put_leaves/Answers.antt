@@ -1,5 +1,4 @@
 -- `put_leaves` meets its contract: one constant or cell more a turn.
-use Prim.Native.Nat.{◌-◌}
 use mathlib.Core.Path.{sym}
 use native.Mathlib.Omega.{arith}
 use Rattle.laws.specs.Rows.{length-base}

@@ -1,5 +1,4 @@
 -- `carry_rows` meets its contract: one row more a turn.
-use Prim.Native.Nat.{◌-◌}
 use mathlib.Core.Path.{refl, ◌∙◌}
 use native.Mathlib.Omega.{arith}
 use Rattle.sets.specs.Spelt.{taken-header}
@@ -16,13 +15,12 @@ pub carry_row-table-requires : goal.carry_row-table-requires
 carry_row-table-requires c = (c.loop-j.invariant.0, omega (arith, c.loop-j.invariant.1, c.loop-j-test.true))
 
 pub loop-j-preserved : goal.loop-j-preserved
-loop-j-preserved c =
-    (
-      c.carry_row-table.ensures,
-      c.loop-j.invariant.1,
-      c.carry_row-table.auto.rows ∙ c.loop-j.invariant.2,
-      c.carry_row-table.auto.numbers ∙ c.loop-j.invariant.3,
-    )
+loop-j-preserved c = (
+  c.carry_row-table.ensures,
+  c.loop-j.invariant.1,
+  c.carry_row-table.auto.rows ∙ c.loop-j.invariant.2,
+  c.carry_row-table.auto.numbers ∙ c.loop-j.invariant.3,
+)
 
 pub shape_of-rows : goal.shape_of-rows
 shape_of-rows c = c.loop-j.invariant.2

@@ -1,5 +1,4 @@
 -- `copy_rows` meets its contract: one row more a turn.
-use Prim.Native.Nat.{◌-◌}
 use mathlib.Core.Path.{◌∙◌}
 use native.Mathlib.Omega.{arith}
 use Rattle.rows.specs.Stored.{filling_none, filling_next, filling_all}

@@ -1,5 +1,4 @@
 -- `move_heads` meets its contract: one head more a turn.
-use Prim.Native.Nat.{◌-◌}
 use mathlib.Core.Path.{refl, ap}
 use native.Mathlib.Omega.{arith}
 use Rattle.rules.specs.Shape.{cells}

@@ -1,5 +1,4 @@
 -- `choose_heads` meets its contract: one cell more a turn.
-use Prim.Native.Nat.{◌-◌}
 use mathlib.Core.Path.{refl, ◌∙◌}
 use native.Mathlib.Omega.{arith}
 use lib.ListN.{length-set}
@@ -24,13 +23,12 @@ pub loop-c-smaller : goal.loop-c-smaller
 loop-c-smaller c = omega (arith, c.loop-c.invariant.2, c.loop-c-test.true)
 
 pub loop-c-preserved : goal.loop-c-preserved
-loop-c-preserved c =
-    (
-      λ w. chosen_more w _ (omega (arith, c.loop-c.invariant.2, c.loop-c-test.true)) (c.loop-c.invariant.0 w) c.choose-head.ensures
-          c.choose-head.auto.rows,
-      c.choose-head.auto.rows ∙ c.loop-c.invariant.1,
-      length-set c.loop-c.made c.loop-c.c c.choose-head.result.row.0 ∙ c.loop-c.invariant.2,
-    )
+loop-c-preserved c = (
+  λ w. chosen_more w _ (omega (arith, c.loop-c.invariant.2, c.loop-c-test.true)) (c.loop-c.invariant.0 w) c.choose-head.ensures
+      c.choose-head.auto.rows,
+  c.choose-head.auto.rows ∙ c.loop-c.invariant.1,
+  length-set c.loop-c.made c.loop-c.c c.choose-head.result.row.0 ∙ c.loop-c.invariant.2,
+)
 
 pub shape_of-rows : goal.shape_of-rows
 shape_of-rows c = c.loop-c.invariant.1

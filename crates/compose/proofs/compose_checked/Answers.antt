@@ -5,12 +5,11 @@ use Rattle.compose.specs.Answer.{first-refused, second-refused}
 use Rattle.compose.proofs.compose_checked.Goals as goal
 
 pub compose_both-requires : goal.compose_both-requires
-compose_both-requires c =
-    (
-      set-accepted _ c.check_set.result c.check_set.ensures c.in-Granted.is,
-      set-accepted _
-          c.check_set-in-Granted.result c.check_set-in-Granted.ensures c.in-Granted-check_set.is,
-    )
+compose_both-requires c = (
+  set-accepted _ c.check_set.result c.check_set.ensures c.in-Granted.is,
+  set-accepted _
+      c.check_set-in-Granted.result c.check_set-in-Granted.ensures c.in-Granted-check_set.is,
+)
 
 pub returns-in-Refused-check_set : goal.returns-in-Refused-check_set
 returns-in-Refused-check_set c =

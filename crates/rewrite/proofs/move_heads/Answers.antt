@@ -1,5 +1,4 @@
 -- `move_heads` meets its contract: one head more a turn.
-use Prim.Native.Nat.{◌-◌}
 use native.Mathlib.Omega.{arith}
 use lib.ListN.{get_or}
 use Rattle.storage.specs.Moves.{replacing_none, mapping_more, mapping_all}

@@ -1,5 +1,4 @@
 -- `copy_heads` meets its contract: each turn copies one head.
-use Prim.Native.Nat.{◌-◌}
 use native.Mathlib.Nat.{sub-zero}
 use native.Mathlib.Omega.{arith}
 use Rattle.storage.specs.Moves.{replacing_none, replacing_more, replacing_whole}

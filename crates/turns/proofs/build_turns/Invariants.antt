@@ -1,7 +1,6 @@
 use Rattle.turn.specs.Turning.{Building}
 use lib.ListN.{length}
 use mathlib.Core.Path.{◌≡◌}
-use Prim.Native.Nat.{◌-◌}
 use Rattle.turns.proofs.build_turns.Given as goal
 
 abbrev pub invariant-loop-i : goal.invariant-loop-i

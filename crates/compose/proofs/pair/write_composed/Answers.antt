@@ -14,8 +14,7 @@ slice_bounds-write_moved-end c =
     (omega (arith, cells-most _ _ _ _ _ _ c.requires, c.cells-cells.ensures)))
 
 pub write_moved-requires : goal.write_moved-requires
-write_moved-requires c =
-    (
-      c.requires,
-      length-take-le c.cells-cells.result _ (omega (arith, cells-most _ _ _ _ _ _ c.requires, c.cells-cells.ensures)) ∙ c.cells-cells.ensures,
-    )
+write_moved-requires c = (
+  c.requires,
+  length-take-le c.cells-cells.result _ (omega (arith, cells-most _ _ _ _ _ _ c.requires, c.cells-cells.ensures)) ∙ c.cells-cells.ensures,
+)

@@ -14,16 +14,15 @@ returns-then-values-total c =
     ))
 
 pub work_out-requires : goal.work_out-requires
-work_out-requires c =
-    (
-      c.requires,
-      omega (
-        arith,
-        total_is _ c.shape_at.result _ _ c.shape_at.ensures c.cells.ensures
-            c.word.ensures.0,
-        c.if-values-total.false,
-      ),
-    )
+work_out-requires c = (
+  c.requires,
+  omega (
+    arith,
+    total_is _ c.shape_at.result _ _ c.shape_at.ensures c.cells.ensures
+        c.word.ensures.0,
+    c.if-values-total.false,
+  ),
+)
 
 pub take_heads-requires : goal.take_heads-requires
 take_heads-requires c =

@@ -1,5 +1,4 @@
 -- `take_heads` meets its contract: one cell more a turn.
-use Prim.Native.Nat.{◌-◌}
 use native.Mathlib.Omega.{arith}
 use Rattle.evaluate.specs.ValueLaws.{head-low, head-there, heads-none, heads-more, heads_all}
 use Rattle.evaluate.proofs.values.take_heads.Goals as goal

@@ -1,7 +1,7 @@
 use native.Mathlib.Omega.{arith}
 use Rattle.program.specs.Reading.{read-before, read-inside, read_variable, second-later}
 use Rattle.instruction.specs.ValueLaws.{value_variable, value_constant, operand-readable, value_not, second-readable, value-two}
-use Prim.Native.Nat.{◌-◌, ◌<◌}
+use Prim.Native.Nat.{◌<◌}
 use lib.ListN.{get_or}
 use Rattle.instruction.proofs.eval.+value_at.Goals as goal
 

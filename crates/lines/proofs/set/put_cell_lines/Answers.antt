@@ -1,5 +1,4 @@
 -- `lines::set::put_cell_lines`: each turn writes the line of one cell.
-use Prim.Native.Nat.{◌-◌}
 use mathlib.Core.Path.{◌≡◌}
 use native.Mathlib.Omega.{arith}
 use Rattle.rules.specs.Shape.{cells}

@@ -1,6 +1,5 @@
 -- `lines::set::put_cell_lines`: each turn writes the line of one cell.
 use Prim.Native.Nat.{◌-◌, ◌≤◌}
-use Rattle.rules.specs.Shape.{cells}
 use Rattle.sets.specs.Spelt.{set_in}
 use Rattle.text.specs.Puts.{Puts}
 use Rattle.lines.specs.Sets.{cell_texts}

@@ -1,5 +1,4 @@
 -- `lines::set::put_row_lines`: each turn writes the line of one row.
-use Prim.Native.Nat.{◌-◌}
 use mathlib.Core.Path.{◌≡◌}
 use native.Mathlib.Omega.{arith}
 use Rattle.sets.specs.Spelt.{rows_in}

@@ -3,7 +3,6 @@ use Rattle.machine.specs.declared.obey.Move.TheVariants.{On, Call, End}
 use Rattle.machine.specs.declared.run.Ran.TheVariants.{Back, Spent}
 use mathlib.Core.Path.{refl}
 use Rattle.machine.specs.RunLaws.{runnable-at, ends_spent, ends_end, ends_on, ends_call, ends_lost}
-use Prim.Native.Nat.{◌-◌}
 use native.Mathlib.Omega.{arith}
 use Rattle.machine.proofs.run.+run_from.Goals as goal
 

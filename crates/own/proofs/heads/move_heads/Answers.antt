@@ -1,7 +1,6 @@
 -- `move_heads` meets its contract: one head more a turn.
 use Rattle.own.specs.ChangeLaws.{heads-more, heads_all}
 use Rattle.storage.specs.Moves.{replacing_none}
-use Prim.Native.Nat.{◌-◌}
 use Rattle.base.specs.Answers.{shape_of}
 use native.Mathlib.Omega.{arith}
 use Rattle.own.proofs.heads.move_heads.Goals as goal

@@ -2,14 +2,8 @@
 use Rattle.spell.specs.SpellLaws.{spell_leaf, operand_spelling, second_spelling, spell_addable, spell_not, both-addable, spell_two}
 use Rattle.program.specs.Reading.{read-before, read-inside, second-later}
 use lib.ListN.{get_or}
-use Prim.Native.Nat.{◌-◌}
 use native.Mathlib.Omega.{arith}
-use Prim.Native.Nat.{ℕ, ◌<◌}
-use Rattle.spell.proofs.expression.add_expression.Reads as add-expression
-use Rattle.spell.proofs.expression.+add_expression.Lts-add_expression as add-expression-lts
-use Rattle.reader.proofs.read_at.Reads as read-at-reads
-use Rattle.spell.proofs.expression.leaf_row.Reads as leaf-row-reads
-use Rattle.rows.proofs.adding.add.Reads as add_reads
+use Prim.Native.Nat.{◌<◌}
 use Rattle.spell.proofs.expression.+add_expression.Goals as goal
 
 pub overflow_add-result : goal.overflow_add-result

@@ -1,5 +1,4 @@
 -- `text::word::put_text`: each turn writes one byte.
-use Prim.Native.Nat.{◌-◌}
 use native.Mathlib.Omega.{arith}
 use Rattle.text.specs.Puts.{copying_none, copying_more, copying_all}
 use Rattle.text.proofs.word.put_text.Goals as goal
