@@ -10,16 +10,24 @@ ghost use Rattle.std.specs.Prelude.{◌≤◌};
 
 use crate::read::{skip_bytes, skip_strings};
 use crate::show::{cut, say};
+use std::io;
+use std::io::{Read, Write};
 
 // Reads past strings and then numbers, and gives the answer.
-pub fn pass_over(strings: u8, numbers: usize, answer: &[u8]) -> bool
+pub fn pass_over(
+    from: &mut impl Read,
+    to: &mut impl Write,
+    strings: u8,
+    numbers: usize,
+    answer: &[u8],
+) -> io::Result<bool>
     requires { numbers ≤ 5 }
 {
-    if !skip_strings(strings) {
-        return cut();
+    if !skip_strings(from, strings)? {
+        return cut(to);
     }
-    if !skip_bytes(4 * numbers) {
-        return cut();
+    if !skip_bytes(from, 4 * numbers)? {
+        return cut(to);
     }
-    say(answer)
+    say(to, answer)
 }

@@ -1,7 +1,10 @@
-// Reads the fields of a case from standard input.
-ghost use Rattle.std.specs.Prelude.{◌≡◌, ◌≤◌, ◌<◌, length};
+// Reads the fields of a case. A read that fails is an error.
+ghost use Rattle.std.specs.Prelude.{◌≡◌, ◌≤◌, ◌<◌, IfOk, length};
 ghost use Rattle.rules.specs.Lists.{number_at};
 ghost use Rattle.harness.specs.Fields.{Fits};
+
+use std::io;
+use std::io::Read;
 
 // A number, or an input that ends before it.
 #[derive(Clone, Copy)]
@@ -35,94 +38,109 @@ fn number_of(b: &[u8; 4]) -> u32
     wide(b[0]) + 256 * wide(b[1]) + 65536 * wide(b[2]) + 16777216 * wide(b[3])
 }
 
-// Reads a number.
-pub fn read_number() -> Number {
-    let mut b = [0u8; 4];
-    if io::read_full(0, &mut b) < 4 {
-        return Number::Cut;
+// Reads until what was lent is full or the input ends, and says how many bytes came.
+pub fn read_full(from: &mut impl Read, lent: &mut [u8]) -> io::Result<usize>
+    ensures { IfOk result (λ n. n ≤ length lent.old) }
+{
+    let mut done = 0;
+    while done < lent.len() {
+        let got = from.read(&mut lent[done..])?;
+        if got == 0 {
+            break;
+        }
+        done += got;
     }
-    Number::Is(number_of(&b))
+    Ok(done)
+}
+
+// Reads a number.
+pub fn read_number(from: &mut impl Read) -> io::Result<Number> {
+    let mut b = [0u8; 4];
+    if read_full(from, &mut b)? < 4 {
+        return Ok(Number::Cut);
+    }
+    Ok(Number::Is(number_of(&b)))
 }
 
 // Reads numbers into what was lent, and says whether they were all there.
-pub fn read_numbers(lent: &mut [usize]) -> bool {
+pub fn read_numbers(from: &mut impl Read, lent: &mut [usize]) -> io::Result<bool> {
     let mut i = 0;
     while i < lent.len() {
-        let Number::Is(n) = read_number() else {
-            return false;
+        let Number::Is(n) = read_number(from)? else {
+            return Ok(false);
         };
         lent[i] = n as usize;
         i += 1;
     }
-    true
+    Ok(true)
 }
 
 // Reads at most 4,096 bytes of those that are left, and says how many came.
-fn skip_some(left: usize) -> usize
-    ensures { result ≤ left }
+fn skip_some(from: &mut impl Read, left: usize) -> io::Result<usize>
+    ensures { IfOk result (λ n. n ≤ left) }
 {
-    let mut buf = io::buffer();
+    let mut buf = [0u8; 4096];
     if left < 4096 {
-        return io::read_full(0, &mut buf[..left]);
+        return read_full(from, &mut buf[..left]);
     }
-    io::read_full(0, &mut buf)
+    read_full(from, &mut buf)
 }
 
 // Reads past so many bytes, and says whether they were all there.
-pub fn skip_bytes(count: usize) -> bool {
+pub fn skip_bytes(from: &mut impl Read, count: usize) -> io::Result<bool> {
     let mut left = count;
     while 0 < left {
-        let got = skip_some(left);
+        let got = skip_some(from, left)?;
         if got == 0 {
-            return false;
+            return Ok(false);
         }
         left -= got;
     }
-    true
+    Ok(true)
 }
 
 // Reads past a string, and says whether it was all there.
-fn skip_string() -> bool {
-    match read_number() {
-        Number::Is(n) => skip_bytes(n as usize),
-        Number::Cut => false,
+fn skip_string(from: &mut impl Read) -> io::Result<bool> {
+    match read_number(from)? {
+        Number::Is(n) => skip_bytes(from, n as usize),
+        Number::Cut => Ok(false),
     }
 }
 
 // Reads past so many strings, and says whether they were all there.
-pub fn skip_strings(count: u8) -> bool {
+pub fn skip_strings(from: &mut impl Read, count: u8) -> io::Result<bool> {
     let mut left = count;
     while 0 < left {
-        if !skip_string() {
-            return false;
+        if !skip_string(from)? {
+            return Ok(false);
         }
         left -= 1;
     }
-    true
+    Ok(true)
 }
 
 // Reads so many bytes into what was lent, or past them.
-fn read_bytes(lent: &mut [u8], count: usize) -> Text
-    ensures { Fits result (length lent.old) }
+fn read_bytes(from: &mut impl Read, lent: &mut [u8], count: usize) -> io::Result<Text>
+    ensures { IfOk result (λ r. Fits r (length lent.old)) }
 {
     if lent.len() < count {
-        if skip_bytes(count) {
-            return Text::Long;
+        if skip_bytes(from, count)? {
+            return Ok(Text::Long);
         }
-        return Text::Cut;
+        return Ok(Text::Cut);
     }
-    if io::read_full(0, &mut lent[..count]) < count {
-        return Text::Cut;
+    if read_full(from, &mut lent[..count])? < count {
+        return Ok(Text::Cut);
     }
-    Text::Holds(count)
+    Ok(Text::Holds(count))
 }
 
 // Reads a string into what was lent, or past it.
-pub fn read_string(lent: &mut [u8]) -> Text
-    ensures { Fits result (length lent.old) }
+pub fn read_string(from: &mut impl Read, lent: &mut [u8]) -> io::Result<Text>
+    ensures { IfOk result (λ r. Fits r (length lent.old)) }
 {
-    match read_number() {
-        Number::Is(n) => read_bytes(lent, n as usize),
-        Number::Cut => Text::Cut,
+    match read_number(from)? {
+        Number::Is(n) => read_bytes(from, lent, n as usize),
+        Number::Cut => Ok(Text::Cut),
     }
 }

@@ -13,41 +13,55 @@ use evaluate::evaluate;
 use evaluate::values::Evaluated;
 use machine::{Scanned, scan};
 use program::Checked;
+use std::io;
+use std::io::Write;
 use storage::copy_cells;
 use writer::{Written, write_unchanging};
 
 // What a check answered.
-pub fn say_checked(r: Checked) -> bool {
+pub fn say_checked(to: &mut impl Write, r: Checked) -> io::Result<bool> {
     match r {
-        Checked::Granted => say(b"granted\n"),
-        Checked::Refused(x) => say_refusal(x),
+        Checked::Granted => say(to, b"granted\n"),
+        Checked::Refused(x) => say_refusal(to, x),
     }
 }
 
 // Scans, and shows the storage after. A copy is kept of what it was.
-pub fn scan_kept(file: &[u8], cells: &mut [u8], before: &mut [u8], budget: u32) -> bool
+pub fn scan_kept(
+    to: &mut impl Write,
+    file: &[u8],
+    cells: &mut [u8],
+    before: &mut [u8],
+    budget: u32,
+) -> io::Result<bool>
     requires { length cells.old ≡ length before.old }
 {
     copy_cells(cells, before);
     match scan(file, cells, budget) {
-        Scanned::Stopped(steps) => say_stopped(steps, cells),
-        Scanned::Refused(x) => refused_on(x, cells, before),
+        Scanned::Stopped(steps) => say_stopped(to, steps, cells),
+        Scanned::Refused(x) => refused_on(to, x, cells, before),
     }
 }
 
 // Evaluates, and shows the storage after. A copy is kept of what it was.
-pub fn evaluate_kept(file: &[u8], cells: &mut [u8], before: &mut [u8], values: &mut [u8]) -> bool
+pub fn evaluate_kept(
+    to: &mut impl Write,
+    file: &[u8],
+    cells: &mut [u8],
+    before: &mut [u8],
+    values: &mut [u8],
+) -> io::Result<bool>
     requires { length cells.old ≡ length before.old }
 {
     copy_cells(cells, before);
     fill_bytes(values, 165);
     let r = evaluate(file, cells, values);
     if !bytes_are(values, 0) {
-        return broken();
+        return broken(to);
     }
     match r {
-        Evaluated::Done => say_storage(cells),
-        Evaluated::Refused(x) => refused_on(x, cells, before),
+        Evaluated::Done => say_storage(to, cells),
+        Evaluated::Refused(x) => refused_on(to, x, cells, before),
     }
 }
 
@@ -63,66 +77,68 @@ fn work_is_zero(rows: &[u64], numbers: &[u16]) -> bool {
 }
 
 // Shows what building left in the output.
-fn show_built(r: Built, out: &[u8]) -> bool {
+fn show_built(to: &mut impl Write, r: Built, out: &[u8]) -> io::Result<bool> {
     match r {
-        Built::Length(n) => say_wrote(n, out, 165),
-        Built::Refused(x) => refused_output(x, b"\n", out, 165),
+        Built::Length(n) => say_wrote(to, n, out, 165),
+        Built::Refused(x) => refused_output(to, x, b"\n", out, 165),
     }
 }
 
 // Builds, and tests what is left of the work.
 pub fn build_shown(
+    to: &mut impl Write,
     file: &[u8],
     rows: &mut [u64],
     numbers: &mut [u16],
     heads: &mut [u16],
     out: &mut [u8],
-) -> bool {
+) -> io::Result<bool> {
     fill_work(rows, numbers);
     fill_numbers(heads, 0xa5a5);
     fill_bytes(out, 165);
     let r = build(file, rows, numbers, heads, out);
     if !work_is_zero(rows, numbers) {
-        return broken();
+        return broken(to);
     }
     if !numbers_are(heads, 0) {
-        return broken();
+        return broken(to);
     }
-    show_built(r, out)
+    show_built(to, r, out)
 }
 
 // Shows what composing left in the output.
-fn show_composed(r: Composed, out: &[u8]) -> bool {
+fn show_composed(to: &mut impl Write, r: Composed, out: &[u8]) -> io::Result<bool> {
     match r {
-        Composed::Length(n) => say_wrote(n, out, 165),
-        Composed::First(x) => refused_output(x, b" in first\n", out, 165),
-        Composed::Second(x) => refused_output(x, b" in second\n", out, 165),
-        Composed::Refused(x) => refused_output(x, b"\n", out, 165),
+        Composed::Length(n) => say_wrote(to, n, out, 165),
+        Composed::First(x) => refused_output(to, x, b" in first\n", out, 165),
+        Composed::Second(x) => refused_output(to, x, b" in second\n", out, 165),
+        Composed::Refused(x) => refused_output(to, x, b"\n", out, 165),
     }
 }
 
 // Composes, and tests what is left of the work.
 pub fn compose_shown(
+    to: &mut impl Write,
     first: &[u8],
     second: &[u8],
     rows: &mut [u64],
     numbers: &mut [u16],
     out: &mut [u8],
-) -> bool {
+) -> io::Result<bool> {
     fill_work(rows, numbers);
     fill_bytes(out, 165);
     let r = compose(first, second, rows, numbers, out);
     if !work_is_zero(rows, numbers) {
-        return broken();
+        return broken(to);
     }
-    show_composed(r, out)
+    show_composed(to, r, out)
 }
 
 // Writes the unchanging set, and shows it.
-pub fn unchanging_shown(shape: Shape, out: &mut [u8]) -> bool {
+pub fn unchanging_shown(to: &mut impl Write, shape: Shape, out: &mut [u8]) -> io::Result<bool> {
     fill_bytes(out, 165);
     match write_unchanging(shape, out) {
-        Written::Length(n) => say_wrote(n, out, 165),
-        Written::Refused(x) => refused_output(x, b"\n", out, 165),
+        Written::Length(n) => say_wrote(to, n, out, 165),
+        Written::Refused(x) => refused_output(to, x, b"\n", out, 165),
     }
 }

@@ -1,94 +1,110 @@
-// Writes answers to standard output, as the case files have them.
+// Writes answers, as the case files have them. A write that fails is an error.
 use crate::lent::{bytes_agree, bytes_are};
 use base::refusal::{Refusal, number_refusal};
+use std::io;
+use std::io::Write;
 
 // Each of these writes a line or a part of one, and says whether the last of it was written.
-pub fn say(text: &[u8]) -> bool {
-    io::write_all(1, text)
+pub fn say(to: &mut impl Write, text: &[u8]) -> io::Result<bool> {
+    to.write_all(text)?;
+    Ok(true)
 }
 
 // The input ends within a case, or the case is none: nothing follows.
-pub fn cut() -> bool {
-    say(b"cut\n");
-    false
+pub fn cut(to: &mut impl Write) -> io::Result<bool> {
+    say(to, b"cut\n")?;
+    Ok(false)
 }
 
 // The case asks for more than the program lends.
-pub fn too_large() -> bool {
-    say(b"too large\n")
+pub fn too_large(to: &mut impl Write) -> io::Result<bool> {
+    say(to, b"too large\n")
 }
 
 // An operation did not leave what is lent as it must.
-pub fn broken() -> bool {
-    say(b"broken\n")
+pub fn broken(to: &mut impl Write) -> io::Result<bool> {
+    say(to, b"broken\n")
 }
 
 // A refusal, and how its line ends.
-fn say_refused(x: Refusal, end: &[u8]) -> bool {
+fn say_refused(to: &mut impl Write, x: Refusal, end: &[u8]) -> io::Result<bool> {
     let s = number_refusal(x);
-    say(b"refused ");
-    io::print_decimal(1, s.0 as u64);
-    say(b" at ");
-    io::print_decimal(1, s.1 as u64);
-    say(end)
+    say(to, b"refused ")?;
+    write!(to, "{}", s.0)?;
+    say(to, b" at ")?;
+    write!(to, "{}", s.1)?;
+    say(to, end)
 }
 
-pub fn say_refusal(x: Refusal) -> bool {
-    say_refused(x, b"\n")
+pub fn say_refusal(to: &mut impl Write, x: Refusal) -> io::Result<bool> {
+    say_refused(to, x, b"\n")
 }
 
 // A refusal leaves the storage as it was.
-pub fn refused_on(x: Refusal, cells: &[u8], before: &[u8]) -> bool {
+pub fn refused_on(
+    to: &mut impl Write,
+    x: Refusal,
+    cells: &[u8],
+    before: &[u8],
+) -> io::Result<bool> {
     if !bytes_agree(cells, before) {
-        return broken();
+        return broken(to);
     }
-    say_refusal(x)
+    say_refusal(to, x)
 }
 
 // A refusal leaves the output filled with x.
-pub fn refused_output(r: Refusal, end: &[u8], out: &[u8], x: u8) -> bool {
+pub fn refused_output(
+    to: &mut impl Write,
+    r: Refusal,
+    end: &[u8],
+    out: &[u8],
+    x: u8,
+) -> io::Result<bool> {
     if !bytes_are(out, x) {
-        return broken();
+        return broken(to);
     }
-    say_refused(r, end)
+    say_refused(to, r, end)
 }
 
-fn say_byte(b: u8) -> bool {
-    io::print_hex(1, b as u64, 2)
+fn say_byte(to: &mut impl Write, b: u8) -> io::Result<bool> {
+    write!(to, "{b:02x}")?;
+    Ok(true)
 }
 
-fn say_bytes(s: &[u8]) {
+fn say_bytes(to: &mut impl Write, s: &[u8]) -> io::Result<()> {
     let mut i = 0;
     while i < s.len() {
-        say_byte(s[i]);
+        say_byte(to, s[i])?;
         i += 1;
     }
+    Ok(())
 }
 
-pub fn say_stopped(steps: u32, cells: &[u8]) -> bool {
-    say(b"steps ");
-    io::print_decimal(1, steps as u64);
-    say(b" ");
-    say_storage(cells)
+pub fn say_stopped(to: &mut impl Write, steps: u32, cells: &[u8]) -> io::Result<bool> {
+    say(to, b"steps ")?;
+    write!(to, "{steps}")?;
+    say(to, b" ")?;
+    say_storage(to, cells)
 }
 
-pub fn say_storage(cells: &[u8]) -> bool {
-    say(b"storage ");
-    say_bytes(cells);
-    say(b"\n")
+pub fn say_storage(to: &mut impl Write, cells: &[u8]) -> io::Result<bool> {
+    say(to, b"storage ")?;
+    say_bytes(to, cells)?;
+    say(to, b"\n")
 }
 
 // The first n bytes of the output were written; those past them are x still.
-pub fn say_wrote(n: usize, out: &[u8], x: u8) -> bool {
+pub fn say_wrote(to: &mut impl Write, n: usize, out: &[u8], x: u8) -> io::Result<bool> {
     if out.len() < n {
-        return broken();
+        return broken(to);
     }
     if !bytes_are(&out[n..], x) {
-        return broken();
+        return broken(to);
     }
-    say(b"wrote ");
-    io::print_decimal(1, n as u64);
-    say(b" ");
-    say_bytes(&out[..n]);
-    say(b"\n")
+    say(to, b"wrote ")?;
+    write!(to, "{n}")?;
+    say(to, b" ")?;
+    say_bytes(to, &out[..n])?;
+    say(to, b"\n")
 }

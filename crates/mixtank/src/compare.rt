@@ -7,6 +7,8 @@ use evaluate::values::Evaluated;
 use harness::lent::bytes_agree;
 use harness::show::say;
 use machine::{Scanned, scan};
+use std::io;
+use std::io::Write;
 use storage::copy_cells;
 
 // Storage k: cell c is bit c of k, where bit 0 is the lowest.
@@ -58,21 +60,21 @@ fn agree_on(program: &[u8], set: &[u8], k: u32) -> bool {
 }
 
 // Says the first storage that differs.
-fn say_differs(k: u32) -> bool {
-    say(b"storage ");
-    io::print_hex(1, k as u64, 4);
-    say(b" differs\n")
+fn say_differs(to: &mut impl Write, k: u32) -> io::Result<bool> {
+    say(to, b"storage ")?;
+    write!(to, "{k:04x}")?;
+    say(to, b" differs\n")
 }
 
 // Compares on every storage, and says whether all agree. Bits 0 to 12 of a storage's number are the variables, bit 13 is the flag,
 // and bits 14 and 15 are the stack.
-pub fn compare_all(program: &[u8], set: &[u8]) -> bool {
+pub fn compare_all(to: &mut impl Write, program: &[u8], set: &[u8]) -> io::Result<bool> {
     let mut k = 0;
     while k < 65536 {
         if !agree_on(program, set, k) {
-            return say_differs(k);
+            return say_differs(to, k);
         }
         k += 1;
     }
-    say(b"65536 storages agree\n")
+    say(to, b"65536 storages agree\n")
 }

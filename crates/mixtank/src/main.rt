@@ -6,34 +6,40 @@ mod published;
 
 use crate::compare::compare_all;
 use build::{Built, build};
+use harness::read::read_full;
 use harness::show::{broken, say, say_refusal};
+use std::io;
+use std::io::Write;
 
 // Says how many bytes the set has, and compares. The set is a part of the output that was lent.
-fn show_built(program: &[u8], out: &[u8], n: usize) -> bool {
+fn show_built(to: &mut impl Write, program: &[u8], out: &[u8], n: usize) -> io::Result<bool> {
     if out.len() < n {
-        return broken();
+        return broken(to);
     }
-    say(b"wrote ");
-    io::print_decimal(1, n as u64);
-    say(b" bytes\n");
-    compare_all(program, &out[..n])
+    say(to, b"wrote ")?;
+    write!(to, "{n}")?;
+    say(to, b" bytes\n")?;
+    compare_all(to, program, &out[..n])
 }
 
 // Builds the set of the program file. 33 instructions with 16 cells each need 528 heads (R55).
-fn run_on(program: &[u8]) -> bool {
+fn run_on(to: &mut impl Write, program: &[u8]) -> io::Result<bool> {
     let mut rows = [0u64; 1024];
     let mut numbers = [0u16; 1024];
     let mut heads = [0u16; 528];
     let mut out = [0u8; 1024];
     match build(program, &mut rows, &mut numbers, &mut heads, &mut out) {
-        Built::Length(n) => show_built(program, &out, n),
-        Built::Refused(x) => say_refusal(x),
+        Built::Length(n) => show_built(to, program, &out, n),
+        Built::Refused(x) => say_refusal(to, x),
     }
 }
 
 // Reads a program file of at most 4,096 bytes.
-fn main() {
-    let mut file = io::buffer();
-    let n = io::read_full(0, &mut file);
-    run_on(&file[..n]);
+fn main(rt: HostRuntime) -> io::Result<()> {
+    let mut file = [0u8; 4096];
+    let mut from = rt.stdin();
+    let mut to = rt.stdout();
+    let n = read_full(&mut from, &mut file)?;
+    run_on(&mut to, &file[..n])?;
+    Ok(())
 }

@@ -1,10 +1,12 @@
 // Prints the transfer set of the program file on standard input, or its refusal (R64).
 #![tactic(auto)]
 
-ghost use Rattle.std.specs.Prelude.{◌≡◌, ◌≤◌, length, take};
+ghost use Rattle.std.specs.Prelude.{◌≡◌, ◌≤◌, IfOk, length, take};
 ghost use Rattle.rules.specs.Lines as R;
 
 use lines::print_built;
+use std::io;
+use std::io::Read;
 
 // R64: the text of a file of at most 34,312 bytes, built in the room that is fixed. Answers how many bytes the text has.
 fn print_file(file: &[u8], text: &mut [u8]) -> usize
@@ -19,11 +21,27 @@ fn print_file(file: &[u8], text: &mut [u8]) -> usize
     print_built(file, &mut rows, &mut numbers, &mut heads, &mut set, text)
 }
 
+// Reads until what was lent is full or the input ends, and says how many bytes came.
+fn read_full(from: &mut impl Read, lent: &mut [u8]) -> io::Result<usize>
+    ensures { IfOk result (λ n. n ≤ length lent.old) }
+{
+    let mut done = 0;
+    while done < lent.len() {
+        let got = from.read(&mut lent[done..])?;
+        if got == 0 {
+            break;
+        }
+        done += got;
+    }
+    Ok(done)
+}
+
 // Reads at most 34,312 bytes: what comes later cannot change the answer (R64).
-fn main() {
+fn main(rt: HostRuntime) -> io::Result<()> {
     let mut file = [0u8; 34312];
     let mut text = [0u8; 230000];
-    let n = io::read_full(0, &mut file);
+    let mut from = rt.stdin();
+    let n = read_full(&mut from, &mut file)?;
     let r = print_file(&file[..n], &mut text);
-    io::write_all(1, &text[..r]);
+    rt.write_all(&text[..r])
 }
