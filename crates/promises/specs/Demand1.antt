@@ -132,13 +132,18 @@ pub data Ends (sh : Shape) (rows out : ℕ) (h : Heads) : Verdict (List ℕ) →
   short_output : length h.tab ≤ room rows → out < length (write_set old (set_of sh h)) → Ends sh rows out h (refused 10 (length h.tab))
   written : length h.tab ≤ room rows → length (write_set old (set_of sh h)) ≤ out → Ends sh rows out h (granted (write_set old (set_of sh h)))
 
-ends : (sh : Shape) (rows out : ℕ) (h : Heads) → Ends sh rows out h (finish old sh rows out h)
+-- What holds at each of these ends holds of how `finish` ends.
+finishes : (sh : Shape) (rows out : ℕ) (h : Heads) (E : Verdict (List ℕ) → Type 0)
+    → (room rows < length h.tab → E (refused 10 (room rows)))
+    → (length h.tab ≤ room rows → out < length (write_set old (set_of sh h)) → E (refused 10 (length h.tab)))
+    → (length h.tab ≤ room rows → length (write_set old (set_of sh h)) ≤ out → E (granted (write_set old (set_of sh h))))
+    → E (finish old sh rows out h)
 unfolding finish write_into
-ends sh rows out h = elim (dec_lt (room rows) (length h.tab)) [
-  | yes a ↦ rw (lt-ltb (room rows) (length h.tab) a) (table-full a)
+finishes sh rows out h E full short fits = elim (dec_lt (room rows) (length h.tab)) [
+  | yes a ↦ rw (lt-ltb (room rows) (length h.tab) a) (full a)
   | no a ↦ elim (dec_lt out (length (write_set old (set_of sh h)))) [
-    | yes b ↦ rw (le-ltb (room rows) (length h.tab) (omega arith), lt-ltb out _ b) (short_output (omega arith) b)
-    | no b ↦ rw (le-ltb (room rows) (length h.tab) (omega arith), le-ltb out (length (write_set old (set_of sh h))) (omega arith)) (written (omega arith) (omega arith))
+    | yes b ↦ rw (le-ltb (room rows) (length h.tab) (omega arith), lt-ltb out _ b) (short (omega arith) b)
+    | no b ↦ rw (le-ltb (room rows) (length h.tab) (omega arith), le-ltb out (length (write_set old (set_of sh h))) (omega arith)) (fits (omega arith) (omega arith))
   ]
 ]
 
@@ -165,7 +170,8 @@ build-room file P r rows numbers heads out = elim (dec_lt rows (leaves P.shape))
             elim (dec_lt heads (heads_to_build P)) [
               | yes c ↦ rw (r, a', b', lt-ltb heads (heads_to_build P) c) (few-heads (omega arith) (omega arith) c)
               | no c ↦ rw (r, a', b', le-ltb heads (heads_to_build P) (omega arith))
-                  (enough (omega arith) (omega arith) (omega arith) (ends P.shape rows out (transfer P)))
+                  (enough (omega arith) (omega arith) (omega arith)
+                  (finishes P.shape rows out (transfer P) (Ends P.shape rows out (transfer P)) table-full short_output written))
             ]
       ]
 ]
@@ -188,7 +194,8 @@ compose-room first second X Y x y s rows numbers out = elim (dec_lt rows (length
       elim (dec_lt numbers (numbers_to_compose X Y)) [
         | yes b ↦ rw (x, y, s, a', lt-ltb numbers (numbers_to_compose X Y) b) (few_numbers (omega arith) b)
         | no b ↦ rw (x, y, s, a', le-ltb numbers (numbers_to_compose X Y) (omega arith))
-            (enough (omega arith) (omega arith) (ends X.shape rows out (composed X Y)))
+            (enough (omega arith) (omega arith)
+            (finishes X.shape rows out (composed X Y) (Ends X.shape rows out (composed X Y)) table-full short_output written))
       ]
 ]
 

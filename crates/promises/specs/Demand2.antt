@@ -1,8 +1,8 @@
 -- Demand 2: the answer is the rules': the table of instructions, the machine's steps, the building rule's set, and one file for a set.
-use Rattle.std.specs.Prelude.{ℕ, ◌<◌, ◌≡◌, Bool, false, List, [], map, length, get_or, take, eqb}
-use Rattle.std.proofs.Common.{sym, ap, ◌∙◌, arith}
+use Rattle.std.specs.Prelude.{ℕ, ◌<◌, ◌≡◌, Bool, false, ◌||◌, List, [], map, length, get_or, take, eqb, ltb}
+use Rattle.std.proofs.Common.{sym, ap, ◌∙◌}
 use Rattle.std.proofs.lemmas.Simd.{map-map}
-use Rattle.rules.specs.Verdict.{Verdict, granted, refused}
+use Rattle.rules.specs.Verdict.{granted}
 use Rattle.rules.specs.Edition.{old}
 use Rattle.rules.specs.Lists.{from}
 use Rattle.rules.specs.Shape.{Shape, cells}
@@ -12,9 +12,10 @@ use Rattle.rules.specs.ProgramFile.{Program, read_program}
 use Rattle.rules.specs.Machine as R
 use Rattle.rules.specs.Machine.{perform, due, stopped, run}
 use Rattle.rules.specs.Build.{transfer}
-use Rattle.rules.specs.SetFile.{TransferSet, write_set, read_set}
-use Rattle.rules.specs.Operations.{storage_bytes, program_set, check_storage, scan}
-use Rattle.laws.specs.Verdict.{bind_granted, grants_of}
+use Rattle.rules.specs.SetFile.{TransferSet, leaves, write_set, read_set}
+use Rattle.rules.specs.Room.{room, numbers_to_build, heads_to_build}
+use Rattle.rules.specs.Operations.{storage_bytes, program_set, check_storage, scan, build, finish, write_into}
+use Rattle.laws.specs.Verdict.{bind_granted, check_granted, grants_of}
 use Rattle.laws.specs.Lists.{get_or-map-from}
 use Rattle.laws.specs.Canonical.{Proper}
 use Rattle.laws.specs.Bytes.{Bytes}
@@ -29,7 +30,7 @@ use Rattle.sets.specs.Judging.{set_verdict}
 use Rattle.build.specs.Contract.{Builds}
 use Rattle.build.specs.declared.Built.TheVariants as B
 use Rattle.promises.specs.Answers.{granted_so}
-use Rattle.promises.specs.Demand1.{build-wrote, Ends, table-full, short_output, written, Room55, few-rows, few_numbers, few-heads, enough, build-room}
+use Rattle.promises.specs.Demand1.{build-wrote}
 
 -- R16: an instruction gives every cell the value of its expression in the one table, all from the storage before it.
 pub table : (sh : Shape) (p : Plain) (s : List Bool) (c : ℕ) → c < cells sh → get_or (perform sh p s) c false ≡ eval s (effect sh p c)
@@ -62,30 +63,17 @@ steps_are file storage budget steps after c P r =
       leaves = g.leaves;
     }
 
--- No refusal is a result.
-never : {k p : ℕ} {bytes : List ℕ} → refused k p ≡ granted bytes → ⊥
-never e =
-    let z : ◌≡◌ {A = ℕ} 0 1 = cc in
-    omega arith
-
 -- R39: what building wrote is the file of the program's set.
 pub built-is : (file : List ℕ) (rows numbers heads n : ℕ) (before after : List ℕ) → Builds file rows numbers heads (B.Length n) before after
     → (P : Program) → read_program old file ≡ granted P → take n after ≡ write_set old (program_set P)
+unfolding build finish write_into
 built-is file rows numbers heads n before after c P r =
-    by (build-room file P r rows numbers heads (length before)) (build-wrote file rows numbers heads before after n c).front
-  where
-    ended : {v : Verdict (List ℕ)} → Ends P.shape rows (length before) (transfer P) v → v ≡ granted (take n after)
-        → take n after ≡ write_set old (program_set P)
-    ended (table-full a) e = absurd (never e)
-    ended (short_output a b) e = absurd (never e)
-    ended (written a b) e = cc
-
-    by : {v : Verdict (List ℕ)} → Room55 P rows numbers heads (length before) v → v ≡ granted (take n after)
-        → take n after ≡ write_set old (program_set P)
-    by (few-rows a) e = absurd (never e)
-    by (few_numbers a b) e = absurd (never e)
-    by (few-heads a b d) e = absurd (never e)
-    by (enough a b d g) e = ended g e
+    let q = (build-wrote file rows numbers heads before after n c).front in
+    let a = check_granted (ltb rows (leaves P.shape)) 10 0 _ (rw r at q) in
+    let b = check_granted (ltb numbers (numbers_to_build rows) || ltb heads (heads_to_build P)) 10 0 _ a.1 in
+    let d = check_granted (ltb (room rows) (length (transfer P).tab)) 10 _ _ b.1 in
+    let f = check_granted (ltb (length before) (length (write_set old (program_set P)))) 10 _ _ d.1 in
+    cc
 
 -- R45: a set has one file. What is written of a set that has a file is accepted, as that set;
 pub write_then_read : (z : TransferSet) → Proper old z → read_set old (write_set old z) ≡ granted z

@@ -69,7 +69,8 @@ module _ (file : List ℕ) (rows numbers heads n : ℕ) (before after : List ℕ
       let same : k.set ≡ program_set P = cc (k.read, built-set) in
       let long : length (map (eqb 1) storage) ≡ cells P.shape
       = length-map storage (eqb 1) ∙ k.long ∙ ap (λ z. cells z.shape) same in
-      (g.what, rw k.is (formulas k.set k.read (map (eqb 1) storage) long), g.leaves)
+      let l = program_leaves P (read-wellformed old file P r) (map (eqb 1) storage) long in
+      (g.what, rw (k.is, same) (record { steps = l.steps; few = l.few; stops = l.stops }), g.leaves)
 
   -- And where `scan` is granted, it leaves the same storage as `evaluate`.
   pub scan-evaluate : (storage : List ℕ) (budget lent steps : ℕ) (t u : List ℕ) → Scans file storage budget (M.Stopped steps) t

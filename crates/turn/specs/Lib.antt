@@ -1,5 +1,3 @@
--- Turns of building: what one knows and leaves, and its laws.
+-- Turns of building: what one knows and leaves.
 pub mod Turning
 pub mod Slots
-pub mod JumpLaws
-pub mod TurnLaws

@@ -1,4 +1,4 @@
-use Rattle.turn.specs.JumpLaws.{flag-few, jump_choosing, jumps_jp, jumps_jpc, jumps_js, call_choosing, jumps_jsc}
+use Rattle.turn.proofs.JumpLaws.{flag-few, jump_choosing, jumps_jp, jumps_jpc, jumps_js, call_choosing, jumps_jsc}
 use native.Mathlib.Omega.{arith}
 use Rattle.turn.proofs.jump_heads.Goals as goal
 

@@ -4,7 +4,7 @@ use native.Mathlib.Omega.{arith}
 use lib.ListN.{length}
 use Rattle.program.specs.Codes.{alone_of}
 use Rattle.program.specs.Standing.{contents-there, most-vars}
-use Rattle.turn.specs.TurnLaws.{place, told, plain-next, owning, end_turned, own-following, plain-turned, label_cut, label_next, label_length, jumping, jump_turned}
+use Rattle.turn.proofs.TurnLaws.{place, told, plain-next, owning, end_turned, own-following, plain-turned, label_cut, label_next, label_length, jumping, jump_turned}
 use Rattle.turn.proofs.turn_heads.Goals as goal
 
 pub instr_at-requires : goal.instr_at-requires

@@ -1,4 +1,4 @@
-use Rattle.turn.specs.TurnLaws.{turn-over, due, turning}
+use Rattle.turn.proofs.TurnLaws.{turn-over, due, turning}
 use Rattle.program.specs.Standing.{most-cells}
 use lib.Seq.{length-take-le}
 use native.Mathlib.Omega.{arith}

@@ -1,4 +1,4 @@
-use Rattle.turn.specs.TurnLaws.{place, slot-ends, turn-built}
+use Rattle.turn.proofs.TurnLaws.{place, slot-ends, turn-built}
 use Rattle.turn.specs.Slots.{slot-fits}
 use Rattle.program.specs.Standing.{most-cells}
 use native.Mathlib.Omega.{arith}

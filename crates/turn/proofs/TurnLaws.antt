@@ -33,7 +33,7 @@ use Rattle.reader.specs.declared.body.Body.TheVariants.{Label}
 use Rattle.rewrite.specs.Follow.{Following, Follows}
 use Rattle.turn.specs.Turning.{built, slot, Building, turn_at, Turning, Jumping, Jumps}
 use Rattle.turn.specs.Slots.{slot-inside, slot-length, put_at, length-put, slot-put, slot_kept}
-use Rattle.turn.specs.JumpLaws.{turn-jumped}
+use Rattle.turn.proofs.JumpLaws.{turn-jumped}
 
 -- ---- one turn more
 

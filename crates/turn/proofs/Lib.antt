@@ -1,0 +1,3 @@
+-- The laws of a turn of building.
+pub mod JumpLaws
+pub mod TurnLaws
