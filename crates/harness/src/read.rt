@@ -40,7 +40,8 @@ fn number_of(b: &[u8; 4]) -> u32
 
 // Reads until what was lent is full or the input ends, and says how many bytes came.
 pub fn read_full(from: &mut impl Read, lent: &mut [u8]) -> io::Result<usize>
-    ensures { IfOk result (λ n. n ≤ length lent.old) }
+    ensures came { IfOk result (λ n. n ≤ length lent.old) }
+    ensures kept { length lent.new ≡ length lent.old }
 {
     let mut done = 0;
     while done < lent.len() {
@@ -121,7 +122,8 @@ pub fn skip_strings(from: &mut impl Read, count: u8) -> io::Result<bool> {
 
 // Reads so many bytes into what was lent, or past them.
 fn read_bytes(from: &mut impl Read, lent: &mut [u8], count: usize) -> io::Result<Text>
-    ensures { IfOk result (λ r. Fits r (length lent.old)) }
+    ensures fitting { IfOk result (λ r. Fits r (length lent.old)) }
+    ensures kept { length lent.new ≡ length lent.old }
 {
     if lent.len() < count {
         if skip_bytes(from, count)? {
@@ -137,7 +139,8 @@ fn read_bytes(from: &mut impl Read, lent: &mut [u8], count: usize) -> io::Result
 
 // Reads a string into what was lent, or past it.
 pub fn read_string(from: &mut impl Read, lent: &mut [u8]) -> io::Result<Text>
-    ensures { IfOk result (λ r. Fits r (length lent.old)) }
+    ensures fitting { IfOk result (λ r. Fits r (length lent.old)) }
+    ensures kept { length lent.new ≡ length lent.old }
 {
     match read_number(from)? {
         Number::Is(n) => read_bytes(from, lent, n as usize),

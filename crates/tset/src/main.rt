@@ -23,7 +23,8 @@ fn print_file(file: &[u8], text: &mut [u8]) -> usize
 
 // Reads until what was lent is full or the input ends, and says how many bytes came.
 fn read_full(from: &mut impl Read, lent: &mut [u8]) -> io::Result<usize>
-    ensures { IfOk result (λ n. n ≤ length lent.old) }
+    ensures came { IfOk result (λ n. n ≤ length lent.old) }
+    ensures kept { length lent.new ≡ length lent.old }
 {
     let mut done = 0;
     while done < lent.len() {
