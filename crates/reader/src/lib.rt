@@ -13,10 +13,10 @@ pub struct Reader<'a> {
 }
 
 // The byte at a place of a file, and 0 past its end.
-fn byte_in(file: &[u8], at: usize) -> u8
-    ensures { result ≡ get_or file.now at 0 }
+fn byte_in(bytes: &[u8], at: usize) -> u8
+    ensures { result ≡ get_or bytes.now at 0 }
 {
-    if at < file.len() { file[at] } else { 0 }
+    if at < bytes.len() { bytes[at] } else { 0 }
 }
 
 // A reader of a file at a place.

@@ -28,15 +28,15 @@ pub fn room_in(rows: usize) -> usize
 }
 
 // R53, R54: stores a row's number after those that are used; or refuses, where no row is left.
-fn put_entry(rows: &mut [u64], table: Table, entry: u64) -> Table
-    ensures { Appends rows.old table entry result rows.new }
+fn put_entry(rows: &mut [u64], state: Table, entry: u64) -> Table
+    ensures { Appends rows.old state entry result rows.new }
 {
-    let used = table.used;
+    let used = state.used;
     if used < room_in(rows.len()) {
         rows[used] = entry;
         return Table {
             used: used + 1,
-            refused: table.refused,
+            refused: state.refused,
         };
     }
     Table {

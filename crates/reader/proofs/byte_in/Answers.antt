@@ -3,5 +3,5 @@ use mathlib.Core.Path.{sym}
 use lib.ListN.{get_or-eq_default}
 use Rattle.reader.proofs.byte_in.Goals as goal
 
-pub returns-else-at-file : goal.returns-else-at-file
-returns-else-at-file c = sym (get_or-eq_default c.args.file.now 0 c.if-at-file.false)
+pub returns-else-at-bytes : goal.returns-else-at-bytes
+returns-else-at-bytes c = sym (get_or-eq_default c.args.bytes.now 0 c.if-at-bytes.false)
