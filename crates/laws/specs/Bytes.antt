@@ -14,6 +14,18 @@ use Rattle.laws.specs.Lists.{map_shift}
 abbrev pub Bytes : List ℕ → Type 0
 Bytes l = (i : ℕ) → get_or l i 0 < 256
 
+-- Lists of bytes are put together to lists of bytes.
+pub bytes-none : Bytes []
+bytes-none i = omega arith
+
+pub bytes-cons : (x : ℕ) (l : List ℕ) → x < 256 → Bytes l → Bytes (x ∷ l)
+bytes-cons x l h b zero = h
+bytes-cons x l h b (suc i) = b i
+
+pub bytes-append : (l m : List ℕ) → Bytes l → Bytes m → Bytes (l ++ m)
+bytes-append [] m b c = c
+bytes-append (x ∷ l) m b c = bytes-cons x (l ++ m) (b 0) (bytes-append l m (λ i. b (suc i)) c)
+
 -- ---- places in a file
 
 module _ {A : Type 0} (file : List A) (p : ℕ) where
@@ -41,6 +53,12 @@ unfolding bytes_of
 length-bytes zero n = refl
 length-bytes (suc k) n = ap suc (length-bytes k (n / 256))
 
+-- It is written in bytes.
+pub bytes-number : (k n : ℕ) → Bytes (bytes_of k n)
+unfolding bytes_of
+bytes-number zero n = bytes-none
+bytes-number (suc k) n = bytes-cons (n % 256) (bytes_of k (n / 256)) (omega arith) (bytes-number k (n / 256))
+
 -- Reading at p what was written there.
 pub number_read : (k n p : ℕ) (file rest : List ℕ) → n < 256 ^ k → drop p file ≡ bytes_of k n ++ rest → number_at k file p ≡ n
 unfolding number_at bytes_of
@@ -67,6 +85,12 @@ module _ (file : List ℕ) (b : Bytes file) where
       rw (low, high, number_write k (suc p) (omega arith)) (take-cons file p k 0 (omega arith))
 
 -- ---- tables: records of w bytes each
+
+-- A table of records that are bytes is bytes.
+pub bytes-table : {A : Type 0} (g : A → List ℕ) → ((x : A) → Bytes (g x)) → (xs : List A) → Bytes (flat_map g xs)
+unfolding flat_map
+bytes-table g b [] = bytes-none
+bytes-table g b (x ∷ xs) = bytes-append (g x) (flat_map g xs) (b x) (bytes-table g b xs)
 
 module _ {A : Type 0} (g : A → List ℕ) (w : ℕ) (same : (x : A) → length (g x) ≡ w) where
   -- The length of a table.

@@ -95,11 +95,17 @@ compose_grouping X Y Z p q x y z s e =
 
 -- ---- the unchanging set on each side
 
+-- The unchanging set before another gives the other's table and heads.
+pub composed-before : (z : TransferSet) → Whole z
+    → ((k : ℕ) → leaves z.shape ≤ k → k < length z.tab → named z.tab z.heads k ≡ true)
+    → composed (unchanging_set z.shape) z ≡ over z.tab z.heads
+composed-before z w n = sym (squeeze-after w) ∙ squeeze-fixed w n
+
 -- The unchanging set before another gives the other.
 pub unchanging-before : (z : TransferSet) → Whole z
     → ((k : ℕ) → leaves z.shape ≤ k → k < length z.tab → named z.tab z.heads k ≡ true)
     → compose_sets (unchanging_set z.shape) z ≡ z
-unchanging-before z w n = ap (set_of z.shape) (sym (squeeze-after w) ∙ squeeze-fixed w n) ∙ set_of-fixed z w n
+unchanging-before z w n = ap (set_of z.shape) (composed-before z w n) ∙ set_of-fixed z w n
 
 -- ---- the leaves of the second set
 
@@ -151,9 +157,12 @@ after-unchanging C t x e =
         (λ c h. g.same (row_of_cell c) (omega (arith, length-base C))
         (needs_keeps (base C) (length (base C)) (row_of_cell c) (from 2 C) (head c (omega arith))))
 
+-- The unchanging set after another gives the other's table and heads.
+pub composed-after : (z : TransferSet) → Whole z → composed z (unchanging_set z.shape) ≡ over z.tab z.heads
+composed-after z w = after-unchanging (cells z.shape) z.tab z.heads w.count
+
 -- The unchanging set after another gives the other.
 pub unchanging-after : (z : TransferSet) → Whole z
     → ((k : ℕ) → leaves z.shape ≤ k → k < length z.tab → named z.tab z.heads k ≡ true)
     → compose_sets z (unchanging_set z.shape) ≡ z
-unchanging-after z w n = ap (set_of z.shape) (after-unchanging (cells z.shape) z.tab z.heads w.count)
-    ∙ set_of-fixed z w n
+unchanging-after z w n = ap (set_of z.shape) (composed-after z w) ∙ set_of-fixed z w n

@@ -9,7 +9,7 @@ use Rattle.rules.specs.SetFile.{row_bytes, row_of, row_in}
 use Rattle.rules.specs.SetFile.{all_below, makes, fits}
 use Rattle.laws.specs.Verdict.{both_true}
 use Rattle.laws.specs.Canonical.{Below}
-use Rattle.laws.specs.Bytes.{Bytes, get_d_part, drop-part, take-cons, take-parts, length-bytes, number_read, number_write}
+use Rattle.laws.specs.Bytes.{Bytes, bytes-cons, bytes-append, bytes-number, get_d_part, drop-part, take-cons, take-parts, length-bytes, number_read, number_write}
 use Rattle.laws.specs.Rule.{Ready}
 use Rattle.laws.specs.Rows.{same_true, same_refl, find_first, find_at}
 
@@ -73,6 +73,19 @@ true_fits t k h c =
 pub length-row : (r : Row) → length (row_bytes r) ≡ 5
 unfolding bytes_of
 length-row r = refl
+
+-- Its five bytes are bytes.
+pub bytes-row : (r : Row) → Bytes (row_bytes r)
+bytes-row r =
+    let a = bytes_of 2 (left r) in
+    let b = bytes_of 2 (right r) in
+    bytes-cons (kind r) (a ++ b) (kind-small r) (bytes-append a b (bytes-number 2 (left r)) (bytes-number 2 (right r)))
+  where
+    kind-small : (r : Row) → kind r < 256
+    kind-small (leaf i) = omega arith
+    kind-small (inv a) = omega arith
+    kind-small (bin true a b) = omega arith
+    kind-small (bin false a b) = omega arith
 
 -- A row that its kind and operands tell, and that names no row above k.
 pub record Operation (k : ℕ) (r : Row) : Type 0 where

@@ -7,6 +7,7 @@ pub mod Shape
 pub mod ProgramFile
 pub mod Decode
 pub mod Machine
+pub mod Table
 pub mod Rows
 pub mod Grow
 pub mod Rule
@@ -23,5 +24,8 @@ pub mod Fits
 pub mod SetFile
 pub mod Compose
 pub mod Room
+pub mod Judges
+pub mod Exact
+pub mod ExactRows
 pub mod Files
 pub mod Composition

@@ -1,6 +1,7 @@
 -- The stepping machine taken several steps at a time, and what a scan within a budget tells of it.
 use Rattle.std.specs.Prelude.{ℕ, zero, suc, ◌+◌, ◌-◌, ◌≤◌, ◌<◌, ◌≡◌, refl, Bool, List, []}
-use Rattle.std.proofs.Common.{arith, zero-add, suc-add}
+use Rattle.std.proofs.Common.{◌∙◌, arith, zero-add, suc-add}
+use Rattle.std.proofs.Math.Decide.{dec_lt}
 use Rattle.std.proofs.Math.Nat.{sub-zero}
 use Rattle.rules.specs.Verdict.{Verdict, granted, refused}
 use Rattle.rules.specs.ProgramFile.{Program}
@@ -95,6 +96,20 @@ scan-whole P b s y e = rw sub-zero at (scan_counts P b 0 (due 0 s []) y e)
 pub scan-refused : (P : Program) (b n : ℕ) (z : State) (q p : ℕ) → scan_from P b n z ≡ refused q p → StillDue P b z q p
 scan-refused P b n z q p e = rw e at (scan-tells P b n z)
 
+-- And where the budget is spent with instruction p due, that is the refusal.
+pub scan_spent : (P : Program) (b n : ℕ) (z : State) (p : ℕ) (s : List Bool) (r : List ℕ) → run P b z ≡ due p s r
+    → scan_from P b n z ≡ refused 11 p
+scan_spent P b n z p s r e = go (scan_from P b n z) refl (scan-tells P b n z)
+  where
+    go : (v : Verdict Scanned) → scan_from P b n z ≡ v → Tells P b n z v → scan_from P b n z ≡ refused 11 p
+    go (granted y) q c =
+        let stop = run_past P (y.steps - n) b z y.storage c.stops (omega arith) in
+        let no : ◌≡◌ {A = ℕ} 0 1 = cc in
+        absurd (omega arith)
+    go (refused k i) q d =
+        let place : i ≡ p = cc d.after in
+        cc d.number
+
 -- A scan with budget enough for the machine to stop is granted, with the storage at the stop.
 pub scan_complete : (P : Program) (b n k : ℕ) (z : State) (s : List Bool) → run P k z ≡ stopped s → k ≤ b
     → (y : Scanned) × (scan_from P b n z ≡ granted y) × (y.storage ≡ s)
@@ -106,3 +121,19 @@ scan_complete P b n k z s e h = go (scan_from P b n z) refl (scan-tells P b n z)
     go (refused q p) g d stop =
         let z : ◌≡◌ {A = ℕ} 0 1 = cc d.after in
         absurd (omega arith)
+
+-- And it counts the steps to the stop.
+pub scan-stops : (P : Program) (b k : ℕ) (z : State) (s : List Bool) → run P k z ≡ stopped s
+    → ((j : ℕ) → j < k → (t : List Bool) → run P j z ≡ stopped t → ⊥) → k ≤ b
+    → scan_from P b 0 z ≡ granted (record { steps = k; storage = s })
+scan-stops P b k z s e sooner h =
+    let (y, q, is) = scan_complete P b 0 k z s e h in
+    let c : Counts P b 0 y.steps z y = rw sub-zero at (scan_counts P b 0 z y q) in
+    let steps : y.steps ≡ k = elim (dec_lt y.steps k) [
+      | yes l ↦ absurd (sooner y.steps l y.storage c.stops)
+      | no l ↦ elim (dec_lt k y.steps) [
+        | yes m ↦ absurd (c.not-sooner k m s e)
+        | no m ↦ omega arith
+      ]
+    ] in
+    q ∙ λ i. granted (record { steps = steps i; storage = is i })

@@ -11,19 +11,19 @@ use borrow.Author.Tests.{ltb-false, leb-false, le-ltb, lt-leb}
 use Rattle.rules.specs.Verdict.{granted}
 use Rattle.rules.specs.Lists.{number_at, bytes_of, from}
 use Rattle.rules.specs.Edition.{Edition, count_at, header_end, most_rows}
-use Rattle.rules.specs.Shape.{Shape, cells, check_shape, read_header}
+use Rattle.rules.specs.Shape.{Shape, cells, check_shape, read_header, write_header}
 use Rattle.rules.specs.Rows.{Row, leaf, base, row_at}
 use Rattle.rules.specs.SetFile.{TransferSet, leaves, row_bytes, write_set, head_at, row_place, row_in, spelt}
 use Rattle.rules.specs.SetFile.{fits, named, check_rows, read_set}
 use Rattle.laws.specs.Verdict.{bind_granted, check_granted, refuse_granted}
 use Rattle.laws.specs.Canonical.{Sensible, Proper}
 use Rattle.laws.specs.Lists.{length_from, map-from, get_or-map-from, search_none, search_all, none_search}
-use Rattle.laws.specs.Bytes.{Bytes, drop-part, take-parts, length-bytes, number_read, number_write}
+use Rattle.laws.specs.Bytes.{Bytes, bytes-append, bytes-number, bytes-table, drop-part, take-parts, length-bytes, number_read, number_write}
 use Rattle.laws.specs.Bytes.{length-table, table-read, table_write}
 use Rattle.laws.specs.Rule.{canonical-ready}
 use Rattle.laws.specs.Rows.{length-base, base-at, base-take}
-use Rattle.laws.specs.Shape.{Headed, length-header, header_read, header-granted, header_write}
-use Rattle.laws.specs.Fits.{Fits, fits_true, true_fits, length-row, operation, row_read, row_write}
+use Rattle.laws.specs.Shape.{Headed, length-header, bytes-header, header_read, header-granted, header_write}
+use Rattle.laws.specs.Fits.{Fits, fits_true, true_fits, length-row, bytes-row, operation, row_read, row_write}
 
 -- ---- the checks of heads and rows
 
@@ -251,3 +251,13 @@ pub write_read : (e : Edition) (file : List ℕ) → Bytes file → (z : Transfe
 write_read e file b z q =
     let (sh, r, a, is) = read-accepted e file z q in
     rw is at (accepted_write e file sh r b a)
+
+-- The file of a set of an allowed shape is bytes, if the mark of sets is one.
+pub bytes-set : (e : Edition) → e.set_mark < 256 → (z : TransferSet) → check_shape e z.shape ≡ granted tt → Bytes (write_set e z)
+unfolding write_set
+bytes-set e m z c =
+    let header = write_header e e.set_mark z.shape (length (operations z)) in
+    let heads = flat_map (bytes_of 2) z.heads in
+    let rows = flat_map row_bytes (operations z) in
+    bytes-append header (heads ++ rows) (bytes-header e e.set_mark z.shape (length (operations z)) m c)
+    (bytes-append heads rows (bytes-table (bytes_of 2) (bytes-number 2) z.heads) (bytes-table row_bytes bytes-row (operations z)))

@@ -1,14 +1,15 @@
 -- Shapes within their limits, and the header that carries a shape: what is written reads back, and what is read is written again.
-use Rattle.std.specs.Prelude.{ℕ, suc, ◌+◌, ◌≤◌, ◌<◌, ◌≡◌, refl, not, ◌&&◌, List, ◌++◌, length, get_or, take, drop, leb, ltb, eqb}
+use Rattle.std.specs.Prelude.{ℕ, suc, ◌+◌, ◌≤◌, ◌<◌, ◌≡◌, refl, Bool, true, false, not, ◌&&◌, List, ◌∷◌, ◌++◌, length, get_or, take, drop, leb, ltb, eqb}
 use Rattle.std.proofs.Common.{sym, ap, ◌∙◌, append_assoc, arith, length-append, ltb-false, leb-true, eqb-true, le-ltb, eq-eqb}
 use Rattle.std.proofs.lemmas.Bool.{not-false}
 use Rattle.rules.specs.Verdict.{granted}
 use Rattle.rules.specs.Lists.{number_at, bytes_of}
 use Rattle.rules.specs.Edition.{Edition, count_at, header_end}
 use Rattle.rules.specs.Shape.{Shape, vars, check_shape, shape_at, read_header, write_header}
-use Rattle.laws.specs.Verdict.{bind_granted, check_granted, refuse_granted, both_true}
+use Rattle.rules.specs.Operations.{same_shape}
+use Rattle.laws.specs.Verdict.{no_false, bind_granted, check_granted, refuse_granted, both_true}
 use Rattle.laws.specs.Canonical.{Sensible}
-use Rattle.laws.specs.Bytes.{Bytes, drop-part, take-cons, take-parts, length-bytes, number_read, number_write}
+use Rattle.laws.specs.Bytes.{Bytes, bytes-cons, bytes-append, bytes-number, drop-part, take-cons, take-parts, length-bytes, number_read, number_write}
 
 -- The limits of a shape.
 pub record Limits (e : Edition) (sh : Shape) : Type 0 where
@@ -40,6 +41,19 @@ pub record Headed (e : Edition) (mark : ℕ) (sh : Shape) (n : ℕ) (body file :
 pub length-header : (e : Edition) (mark : ℕ) (sh : Shape) (n : ℕ) → length (write_header e mark sh n) ≡ header_end e
 unfolding write_header
 length-header e mark sh n = simp (length-append, length-bytes) (omega arith)
+
+-- The header of an allowed shape is bytes.
+pub bytes-header : (e : Edition) (mark : ℕ) (sh : Shape) (n : ℕ) → mark < 256 → check_shape e sh ≡ granted tt → Bytes (write_header e mark sh n)
+unfolding write_header
+bytes-header e mark sh n m c =
+    let w = e.count_bytes in
+    let afterO = bytes_of w sh.memory ++ bytes_of 2 n in
+    let afterI = bytes_of w sh.outputs ++ afterO in
+    let afterD = bytes_of w sh.inputs ++ afterI in
+    bytes-cons mark (sh.depth ∷ afterD) m (bytes-cons sh.depth afterD (omega (arith, (shape-limits e sh c).shallow))
+    (bytes-append (bytes_of w sh.inputs) afterI (bytes-number w sh.inputs)
+    (bytes-append (bytes_of w sh.outputs) afterO (bytes-number w sh.outputs)
+    (bytes-append (bytes_of w sh.memory) (bytes_of 2 n) (bytes-number w sh.memory) (bytes-number 2 n)))))
 
 -- Reading the header that was written.
 pub header_read : (e : Edition) → Sensible e → (mark : ℕ) (sh : Shape) (n : ℕ) (body : List ℕ) → check_shape e sh ≡ granted tt
@@ -109,3 +123,38 @@ header_write e mark sh n file b h c =
     let byte1 = take-cons file 1 (w + (w + (w + 2))) 0 (omega arith) in
     let byte0 = take-cons file 0 (suc (w + (w + (w + 2)))) 0 (omega arith) in
     rw (← h.marked, ← h.is, ← c, I, O, M, N, q, take-parts, take-parts, take-parts, byte1, byte0, k)
+
+-- ---- one shape
+
+-- Shapes that are found to be the same are equal.
+pub shape_equal : (a b : Shape) → same_shape a b ≡ true → a ≡ b
+shape_equal a b q =
+    let (d, r) = both_true (eqb a.depth b.depth) _ q in
+    let (i, t) = both_true (eqb a.inputs b.inputs) _ r in
+    let (o, m) = both_true (eqb a.outputs b.outputs) _ t in
+    let d' : a.depth ≡ b.depth = eqb-true a.depth b.depth d in
+    let i' : a.inputs ≡ b.inputs = eqb-true a.inputs b.inputs i in
+    let o' : a.outputs ≡ b.outputs = eqb-true a.outputs b.outputs o in
+    let m' : a.memory ≡ b.memory = eqb-true a.memory b.memory m in
+    λ k. record { depth = d' k; inputs = i' k; outputs = o' k; memory = m' k }
+
+-- A shape is found to be the same as itself.
+pub shape_same : (a : Shape) → same_shape a a ≡ true
+shape_same a =
+    rw (
+      eq-eqb a.depth a.depth refl,
+      eq-eqb a.inputs a.inputs refl,
+      eq-eqb a.outputs a.outputs refl,
+      eq-eqb a.memory a.memory refl,
+    )
+
+-- Shapes that are found to be others are so, and the other way round.
+pub shape_other : (a b : Shape) → same_shape a b ≡ false → a ≡ b → ⊥
+shape_other a b s q = no_false (sym s ∙ ap (same_shape a) (sym q) ∙ shape_same a)
+
+pub other_shape : (a b : Shape) → (a ≡ b → ⊥) → same_shape a b ≡ false
+other_shape a b n = go (same_shape a b) refl
+  where
+    go : (t : Bool) → same_shape a b ≡ t → t ≡ false
+    go true s = absurd (n (shape_equal a b s))
+    go false s = refl

@@ -1,8 +1,21 @@
 -- What a granted chain of checks tells.
-use Rattle.std.specs.Prelude.{ℕ, ◌≤◌, ◌≡◌, refl, Bool, true, false, not, ◌&&◌, leb}
-use Rattle.std.proofs.Common.{subst, arith, leb-true}
+use Rattle.std.specs.Prelude.{ℕ, ◌≤◌, ◌≡◌, refl, Bool, true, false, not, ◌&&◌, ◌||◌, leb}
+use Rattle.std.proofs.Common.{sym, subst, arith, leb-true}
 use Rattle.std.proofs.lemmas.Bool.{not-false}
 use Rattle.rules.specs.Verdict.{Verdict, granted, refused, ◌>>=◌, refuse_if}
+
+-- What is granted is not refused.
+pub never-refused : {A : Type 0} {a : A} {n p : ℕ} → granted a ≡ refused n p → ⊥
+never-refused e =
+    let z : ◌≡◌ {A = ℕ} 0 1 = cc in
+    omega arith
+
+-- Equal refusals have one number and one place, and equal grants one thing granted.
+pub same_refusal : {A : Type 0} {n p m q : ℕ} → ◌≡◌ {A = Verdict A} (refused n p) (refused m q) → (n ≡ m) × (p ≡ q)
+same_refusal e = (cc, cc)
+
+pub same_grant : {A : Type 0} {a b : A} → granted a ≡ granted b → a ≡ b
+same_grant e = cc
 
 -- A chain is granted only if its first part is, and the rest on what that hands back.
 pub bind_granted : {A B : Type 0} (m : Verdict A) (g : A → Verdict B) {b : B} → (m >>= g) ≡ granted b
@@ -19,6 +32,11 @@ check_granted true n p g e =
     let z : ◌≡◌ {A = ℕ} 0 1 = cc in
     absurd (omega arith)
 check_granted false n p g e = (refl, e)
+
+-- A check before the same refusal changes nothing.
+pub check_same : {B : Type 0} (t : Bool) (n p : ℕ) (g : Unit {0} → Verdict B) → g tt ≡ refused n p → (refuse_if t n p >>= g) ≡ refused n p
+check_same true n p g e = refl
+check_same false n p g e = e
 
 -- A last check that is granted has found nothing.
 pub refuse_granted : (t : Bool) (n p : ℕ) → refuse_if t n p ≡ granted tt → t ≡ false
@@ -39,6 +57,11 @@ both_true true b e = (refl, e)
 both_true false b e =
     let z : ◌≡◌ {A = ℕ} 0 1 = cc in
     absurd (omega arith)
+
+-- Two tests of which neither holds.
+pub both_false : (a b : Bool) → a || b ≡ false → (a ≡ false) × (b ≡ false)
+both_false true b e = absurd (no_false (sym e))
+both_false false b e = (refl, e)
 
 -- A check of two bounds that found nothing tells both; `ltb a b` is `leb (suc a) b`.
 pub within : (a b c d : ℕ) → not (leb a b && leb c d) ≡ false → (a ≤ b) × (c ≤ d)
@@ -94,3 +117,15 @@ grants-within a b c d n p g h =
     grants_check (not (leb a b && leb c d)) n p g λ q.
     let w = within a b c d q in
     h w.0 w.1
+
+-- What holds of a chain: of a refusal of its first part, and of its rest on whatever that hands back.
+pub cases_bind : {A B : Type 0} (S : Verdict B → Type 0) (m : Verdict A) (g : A → Verdict B)
+    → ((n p : ℕ) → m ≡ refused n p → S (refused n p)) → ((a : A) → m ≡ granted a → S (g a)) → S (m >>= g)
+cases_bind S (granted a) g r h = h a refl
+cases_bind S (refused n p) g r h = r n p refl
+
+-- What holds of a chain that begins with a check: where it finds something, and where it finds nothing.
+pub cases_check : {B : Type 0} (S : Verdict B → Type 0) (t : Bool) (n p : ℕ) (g : Unit {0} → Verdict B) → (t ≡ true → S (refused n p))
+    → (t ≡ false → S (g tt)) → S (refuse_if t n p >>= g)
+cases_check S true n p g r h = r refl
+cases_check S false n p g r h = h refl
