@@ -61,7 +61,7 @@ budget_only j = j.1 refl
 pub record OnSet (e : Edition) (file storage : List ℕ) : Type 0 where
   pub set : TransferSet
   pub bits : List Bool
-  pub read_set : read_set e file ≡ granted set
+  pub read-set : read_set e file ≡ granted set
   pub read-bits : check_storage (cells set.shape) storage ≡ granted bits
 
 -- R54, R57: fewer values than the set has rows.
@@ -84,7 +84,7 @@ module _ (e : Edition) (file storage : List ℕ) (lent : ℕ) where
       let S = EvaluateAnswers e file storage lent in
       cases_bind S (read_set e file) _ (λ n p q. of_file q) λ z r.
       cases_bind S (check_storage (cells z.shape) storage) _ (λ n p q. of_storage z r q) λ s c.
-      let o : OnSet e file storage = record { set = z; bits = s; read_set = r; read-bits = c } in
+      let o : OnSet e file storage = record { set = z; bits = s; read-set = r; read-bits = c } in
       cases_check S (ltb lent (values_to_evaluate z)) 10 0 _ (λ a. of_room o (few-values (ltb-true _ _ a)))
       (λ a. evaluated o (ltb-false lent (values_to_evaluate z) a))
 
@@ -96,8 +96,8 @@ module _ (e : Edition) (file storage : List ℕ) (lent : ℕ) where
       back : {v : Verdict (List Bool)} → EvaluateAnswers e file storage lent v → evaluate e file storage lent ≡ v
       back (of_file q) = rw q
       back (of_storage z r q) = rw (r, q)
-      back (of_room o (few-values a)) = rw (o.read_set, o.read-bits, lt-ltb lent (values_to_evaluate o.set) a)
-      back (evaluated o a) = rw (o.read_set, o.read-bits, le-ltb lent (values_to_evaluate o.set) a)
+      back (of_room o (few-values a)) = rw (o.read-set, o.read-bits, lt-ltb lent (values_to_evaluate o.set) a)
+      back (evaluated o a) = rw (o.read-set, o.read-bits, le-ltb lent (values_to_evaluate o.set) a)
 
   evaluate-kind : {v : Verdict (List Bool)} → EvaluateAnswers e file storage lent v
       → Kind (λ v. (o : OnSet e file storage) × (values_to_evaluate o.set ≤ lent) × (v ≡ evaluate_set o.set o.bits))

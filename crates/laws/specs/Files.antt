@@ -1,12 +1,12 @@
 -- The laws of whole operations: what building and composing write is accepted, evaluating it is what the machine leaves, and the unchanging set gives back bytes.
-use Rattle.std.specs.Prelude.{ℕ, ◌+◌, ◌-◌, ◌^◌, ◌≤◌, ◌≡◌, refl, Bool, true, not, ◌||◌, List, [], map, length, get_or, ltb, eqb}
+use Rattle.std.specs.Prelude.{ℕ, ◌+◌, ◌-◌, ◌^◌, ◌≤◌, ◌<◌, ◌≡◌, ◌↔◌, refl, Bool, true, not, ◌||◌, List, [], map, length, get_or, ltb, eqb}
 use Rattle.std.proofs.Common.{sym, ap, ◌∙◌, arith, ltb-false, eqb-true}
 use Rattle.std.proofs.Math.Nat.{sub-zero}
 use Rattle.std.proofs.lemmas.List.{length-map}
 use Rattle.std.proofs.lemmas.Bool.{not-false}
 use Rattle.rules.specs.Verdict.{granted}
 use Rattle.rules.specs.Lists.{seek}
-use Rattle.rules.specs.Edition.{Edition, old}
+use Rattle.rules.specs.Edition.{Edition, most_rows, old}
 use Rattle.rules.specs.Shape.{Shape, cells, check_shape}
 use Rattle.rules.specs.ProgramFile.{Program, read_program}
 use Rattle.rules.specs.Machine.{due, stopped, run, Scanned, scan_program}
@@ -14,22 +14,30 @@ use Rattle.rules.specs.Sets.{Heads}
 use Rattle.rules.specs.Build.{transfer}
 use Rattle.rules.specs.SetFile.{TransferSet, leaves, write_set, read_set}
 use Rattle.rules.specs.Room.{room, numbers_to_build, heads_to_build, numbers_to_compose, values_to_evaluate}
-use Rattle.rules.specs.Operations.{check_storage, scan, evaluate_set, set_of, program_set, composed, compose_sets, unchanging_set, write_into, finish, build, evaluate, same_shape, compose}
-use Rattle.laws.specs.Verdict.{bind_granted, check_granted, both_true, Grants, grants, grants_of, grants_check}
+use Rattle.rules.specs.Operations.{check_storage, scan, evaluate_set, set_of, program_set, composed, compose_sets, unchanging_set, write_into, finish, build, evaluate, same_shape, compose, write_unchanging}
+use Rattle.laws.specs.Verdict.{bind_granted, check_granted, Grants, grants, grants_of, grants_check}
 use Rattle.laws.specs.Canonical.{Sensible, Proper, WellFormed}
 use Rattle.laws.specs.Bytes.{Bytes}
+use Rattle.laws.specs.Shape.{shape-limits, shape_equal}
 use Rattle.laws.specs.ProgramFile.{read-wellformed, read-shape}
 use Rattle.laws.specs.Machine.{run_past, scan-whole}
 use Rattle.laws.specs.Rows.{length-base}
-use Rattle.laws.specs.After.{Stands}
+use Rattle.laws.specs.After.{Stands, over}
 use Rattle.laws.specs.Transfer.{transfer-stands, transfer-does}
 use Rattle.laws.specs.Squeeze.{unchanging-stands}
-use Rattle.laws.specs.SetFile.{read_write, read_proper, write_read}
-use Rattle.laws.specs.Compose.{Whole, proper_whole, set_of_acts, set_of_proper, composed-stands, unchanging-before, unchanging-after}
+use Rattle.laws.specs.SetFile.{read_write, read_proper, write_read, bytes-set}
+use Rattle.laws.specs.Compose.{Whole, proper_whole, set_of_acts, set_of_proper, composed-stands}
+use Rattle.laws.specs.Compose.{composed-before, unchanging-before, composed-after, unchanging-after}
+use Rattle.laws.specs.Exact.{unchanging-granted_exactly}
+use Rattle.laws.specs.ExactRows.{EndFits, Both, build-granted_exactly, compose-granted_exactly, composed_with}
 
 -- The edition there is, is sensible.
 pub old_sensible : Sensible old
 old_sensible = record { counts_fit = omega arith }
+
+-- Its mark of sets is a byte.
+pub old_mark : old.set_mark < 256
+old_mark = omega arith
 
 -- ---- what is written
 
@@ -63,15 +71,7 @@ build-accepted e s file rows numbers heads out P bytes p q =
 
 -- Shapes that are found to be the same are equal.
 pub same-shape : (a b : Shape) → same_shape a b ≡ true → a ≡ b
-same-shape a b q =
-    let (d, r) = both_true (eqb a.depth b.depth) _ q in
-    let (i, t) = both_true (eqb a.inputs b.inputs) _ r in
-    let (o, m) = both_true (eqb a.outputs b.outputs) _ t in
-    let d' : a.depth ≡ b.depth = eqb-true a.depth b.depth d in
-    let i' : a.inputs ≡ b.inputs = eqb-true a.inputs b.inputs i in
-    let o' : a.outputs ≡ b.outputs = eqb-true a.outputs b.outputs o in
-    let m' : a.memory ≡ b.memory = eqb-true a.memory b.memory m in
-    λ k. record { depth = d' k; inputs = i' k; outputs = o' k; memory = m' k }
+same-shape a b q = shape_equal a b q
 
 -- What was composed: the two sets have one shape, and what was written is the file of their composition.
 pub record Composes (e : Edition) (X Y : TransferSet) (bytes : List ℕ) : Type 0 where
@@ -167,7 +167,61 @@ evaluate-is-scan e sensible file rows numbers heads out bytes q storage budget l
     g.is ∙ ap (λ z. evaluate_set z (map (eqb 1) storage)) same ∙ ap (evaluate_set (program_set P)) (sym k.is)
     ∙ sym (scan-leaves P (read-wellformed e file P p) s (rw k.is (length-map storage (eqb 1) ∙ k.long)) budget y r)
 
+-- ---- what is written is bytes, in an edition whose mark of sets is a byte
+
+-- What building writes is bytes.
+pub build-bytes : (e : Edition) → e.set_mark < 256 → (file : List ℕ) (rows numbers heads out : ℕ) (bytes : List ℕ)
+    → build e file rows numbers heads out ≡ granted bytes → Bytes bytes
+unfolding set_of
+build-bytes e m file rows numbers heads out bytes q =
+    let (P, p, _, w) = (build-granted_exactly e file rows numbers heads out bytes).0 q in
+    rw w (bytes-set e m (program_set P) (read-shape e file P p))
+
+-- What composing writes is bytes.
+pub compose-bytes : (e : Edition) → e.set_mark < 256 → (first second : List ℕ) (rows numbers out : ℕ) (bytes : List ℕ)
+    → compose e first second rows numbers out ≡ granted bytes → Bytes bytes
+unfolding set_of
+compose-bytes e m first second rows numbers out bytes q =
+    let (b, c) = (compose-granted_exactly e first second rows numbers out bytes).0 q in
+    rw c.written (bytes-set e m (compose_sets b.X b.Y) (read_proper e first b.X b.read_first).shaped)
+
+-- What writing the unchanging set writes is bytes.
+pub unchanging-bytes : (e : Edition) → e.set_mark < 256 → (sh : Shape) (out : ℕ) (bytes : List ℕ)
+    → write_unchanging e sh out ≡ granted bytes → Bytes bytes
+unchanging-bytes e m sh out bytes q =
+    let (c, _, w) = (unchanging-granted_exactly e sh out bytes).0 q in
+    rw w (bytes-set e m (unchanging_set sh) c)
+
 -- ---- the unchanging set gives back bytes
+
+-- The unchanging set of an allowed shape, whose leaves have room, has a file.
+unchanging_set_proper : (e : Edition) (sh : Shape) → check_shape e sh ≡ granted tt → leaves sh ≤ most_rows → Proper e (unchanging_set sh)
+unchanging_set_proper e sh c h =
+    let u = unchanging-stands (cells sh) in
+    let size = length-base (cells sh) in
+    record {
+      shaped = c;
+      canonical = u.canonical;
+      count = u.count;
+      rows = u.low;
+      names = λ k l m. absurd (omega arith);
+      room = omega arith;
+    }
+
+-- That file is accepted.
+pub unchanging-accepted : (e : Edition) → Sensible e → (sh : Shape) → check_shape e sh ≡ granted tt → leaves sh ≤ most_rows
+    → read_set e (write_set e (unchanging_set sh)) ≡ granted (unchanging_set sh)
+unchanging-accepted e s sh c h = read_write e s (unchanging_set sh) (unchanging_set_proper e sh c h)
+
+-- In the edition there is they have room.
+pub old-leaves : (sh : Shape) → check_shape old sh ≡ granted tt → leaves sh ≤ most_rows
+old-leaves sh c = let l = shape-limits old sh c in omega (arith, l.most, l.shallow)
+
+-- The room in which a set, and its file, is held.
+pub record HoldsSet (z : TransferSet) (file : List ℕ) (rows numbers out : ℕ) : Type 0 where
+  pub rows_hold : length z.tab ≤ rows
+  pub numbers_hold : length z.tab ≤ numbers
+  pub output-holds : length file ≤ out
 
 module _ (e : Edition) (s : Sensible e) (file : List ℕ) (b : Bytes file) (z : TransferSet)
     (r : read_set e file ≡ granted z) where
@@ -178,33 +232,81 @@ module _ (e : Edition) (s : Sensible e) (file : List ℕ) (b : Bytes file) (z : 
   unchanging_proper : Proper e (unchanging_set z.shape)
   unchanging_proper =
       let p = read_proper e file z r in
-      let u = unchanging-stands (cells z.shape) in
-      let size = length-base (cells z.shape) in
-      record {
-        shaped = p.shaped;
-        canonical = u.canonical;
-        count = u.count;
-        rows = u.low;
-        names = λ k l h. absurd (omega arith);
-        room = omega (arith, p.room, p.canonical.long);
-      }
+      unchanging_set_proper e z.shape p.shaped (omega (arith, p.room, p.canonical.long))
 
   -- Its file.
   abbrev still : List ℕ
   still = write_set e (unchanging_set z.shape)
 
+  -- It is accepted.
+  still_read : read_set e still ≡ granted (unchanging_set z.shape)
+  still_read = read_write e s (unchanging_set z.shape) unchanging_proper
+
+  -- Two files that compose to the set are composed exactly where the set is held, and the set's bytes are written.
+  module _ (first second : List ℕ) (pair : Both e first second) (one-shape : pair.X.shape ≡ pair.Y.shape)
+      (same : composed pair.X pair.Y ≡ over z.tab z.heads) (is : compose_sets pair.X pair.Y ≡ z)
+      (few : length pair.X.tab ≤ length z.tab) (many : numbers_to_compose pair.X pair.Y ≡ length z.tab) where
+    size : length (composed pair.X pair.Y).tab ≡ length z.tab
+    size = ap (λ (h : Heads). length h.tab) same
+
+    given_back : write_set e (compose_sets pair.X pair.Y) ≡ file
+    given_back = ap (write_set e) is ∙ write_read e file b z r
+
+    to_itself : (rows numbers out : ℕ) (bytes : List ℕ) → (compose e first second rows numbers out ≡ granted bytes)
+        ↔ (HoldsSet z file rows numbers out × (bytes ≡ file))
+    to_itself rows numbers out bytes = (there, back)
+      where
+        long : length (write_set e (compose_sets pair.X pair.Y)) ≡ length file
+        long = ap length given_back
+
+        there : compose e first second rows numbers out ≡ granted bytes → HoldsSet z file rows numbers out × (bytes ≡ file)
+        there q =
+            let c = composed_with e first second rows numbers out pair.X pair.Y bytes pair.read_first pair.read-second q in
+            let holds : HoldsSet z file rows numbers out = record {
+              rows_hold = omega (arith, size, c.fits.ends.table);
+              numbers_hold = omega (arith, many, c.fits.numbered);
+              output-holds = omega (arith, long, c.fits.ends.output);
+            } in
+            (holds, c.written ∙ given_back)
+
+        back : HoldsSet z file rows numbers out × (bytes ≡ file) → compose e first second rows numbers out ≡ granted bytes
+        back (h, w) =
+            let ends : EndFits e pair.X.shape rows out (composed pair.X pair.Y) = record {
+              table = omega (arith, size, h.rows_hold, (read_proper e file z r).room);
+              output = omega (arith, long, h.output-holds);
+            } in
+            let begins : length pair.X.tab ≤ rows = omega (arith, few, h.rows_hold) in
+            let numbered : numbers_to_compose pair.X pair.Y ≤ numbers = omega (arith, many, h.numbers_hold) in
+            (compose-granted_exactly e first second rows numbers out bytes).1
+            (pair, record { shape = one-shape; fits = record { begins = begins; numbered = numbered; ends = ends }; written = w ∙ sym given_back })
+
+  -- The unchanging set is composed before a set exactly where the set is held, and the set's bytes are written.
+  pub unchanging-first_exactly : (rows numbers out : ℕ) (bytes : List ℕ) → (compose e still file rows numbers out ≡ granted bytes)
+      ↔ (HoldsSet z file rows numbers out × (bytes ≡ file))
+  unchanging-first_exactly rows numbers out bytes =
+      let n = (read_proper e file z r).names in
+      let size = length-base (cells z.shape) in
+      let long = whole.canonical.long in
+      let both : Both e still file = record { X = unchanging_set z.shape; Y = z; read_first = still_read; read-second = r } in
+      to_itself still file both refl (composed-before z whole n) (unchanging-before z whole n) (omega arith) (omega arith)
+      rows numbers out bytes
+
   -- Composed before a set it gives back the set's bytes.
   pub unchanging-first : (rows numbers out : ℕ) (bytes : List ℕ) → compose e still file rows numbers out ≡ granted bytes
       → bytes ≡ file
-  unchanging-first rows numbers out bytes q =
-      let u = read_write e s (unchanging_set z.shape) unchanging_proper in
-      (compose-accepted e s still file rows numbers out (unchanging_set z.shape) z bytes u r q).written
-      ∙ ap (write_set e) (unchanging-before z whole (read_proper e file z r).names) ∙ write_read e file b z r
+  unchanging-first rows numbers out bytes q = ((unchanging-first_exactly rows numbers out bytes).0 q).1
+
+  -- The unchanging set is composed after a set exactly where the set is held, and the set's bytes are written.
+  pub unchanging-second_exactly : (rows numbers out : ℕ) (bytes : List ℕ) → (compose e file still rows numbers out ≡ granted bytes)
+      ↔ (HoldsSet z file rows numbers out × (bytes ≡ file))
+  unchanging-second_exactly rows numbers out bytes =
+      let n = (read_proper e file z r).names in
+      let size = length-base (cells z.shape) in
+      let both : Both e file still = record { X = z; Y = unchanging_set z.shape; read_first = r; read-second = still_read } in
+      to_itself file still both refl (composed-after z whole) (unchanging-after z whole n) (omega arith) (omega arith)
+      rows numbers out bytes
 
   -- Composed after a set it gives back the set's bytes.
   pub unchanging-second : (rows numbers out : ℕ) (bytes : List ℕ) → compose e file still rows numbers out ≡ granted bytes
       → bytes ≡ file
-  unchanging-second rows numbers out bytes q =
-      let u = read_write e s (unchanging_set z.shape) unchanging_proper in
-      (compose-accepted e s file still rows numbers out z (unchanging_set z.shape) bytes r u q).written
-      ∙ ap (write_set e) (unchanging-after z whole (read_proper e file z r).names) ∙ write_read e file b z r
+  unchanging-second rows numbers out bytes q = ((unchanging-second_exactly rows numbers out bytes).0 q).1
