@@ -1,5 +1,5 @@
 -- Composition, of files: evaluating what was composed is evaluating the first file and then the second, and either grouping of three gives
--- equal values.
+-- equal values. The sets in the files do so by their rows' meaning, which needs no room; so `evaluate` of files does where there is room.
 use Rattle.std.specs.Prelude.{ℕ, ◌≡◌, refl, Bool, true, false, eqb}
 use Rattle.std.proofs.Math.Path.{sym, ap}
 use Rattle.std.proofs.Common.{◌∙◌}
@@ -14,6 +14,7 @@ use Rattle.laws.specs.Verdict.{bind_granted}
 use Rattle.laws.specs.Canonical.{Sensible}
 use Rattle.laws.specs.SetFile.{read_proper}
 use Rattle.laws.specs.Compose.{Whole, proper_whole, compose-value, compose_grouping}
+use Rattle.laws.specs.ExactRows.{Both}
 use Rattle.laws.specs.Files.{Composes, compose-accepted, evaluate-granted}
 
 -- What a granted composition has read, and what it has written.
@@ -32,42 +33,82 @@ compose-granted e s first second rows numbers out bytes q =
     let (Y, y, _) = bind_granted (read_set e second) _ rest in
     record { one = X; two = Y; read_one = x; read-two = y; made = compose-accepted e s first second rows numbers out X Y bytes x y q }
 
+-- Two sets that were read from one file are the same.
+one_set : (e : Edition) (file : List ℕ) (X Y : TransferSet) → read_set e file ≡ granted X → read_set e file ≡ granted Y → X ≡ Y
+one_set e file X Y x y = cc
+
+-- ---- the rows' meaning
+
+module _ (e : Edition) (s : Sensible e) where
+  whole : (file : List ℕ) (X : TransferSet) → read_set e file ≡ granted X → Whole X
+  whole file X r = proper_whole (read_proper e file X r)
+
+  module _ (first second : List ℕ) (rows numbers out : ℕ) (file : List ℕ)
+      (q : compose e first second rows numbers out ≡ granted file) where
+    -- R40: both files are accepted, and so is what is written: it is the composition of the two sets, which have one shape.
+    pub compose-granted_both : (b : Both e first second) × Composes e b.X b.Y file
+    compose-granted_both =
+        let c = compose-granted e s first second rows numbers out file q in
+        (record { X = c.one; Y = c.two; read_first = c.read_one; read-second = c.read-two }, c.made)
+
+    -- R40: the set in the file composed is the composition of the two sets, which have one shape.
+    pub compose-is : (X Y Z : TransferSet) → read_set e first ≡ granted X → read_set e second ≡ granted Y → read_set e file ≡ granted Z
+        → (X.shape ≡ Y.shape) × (Z ≡ compose_sets X Y)
+    compose-is X Y Z x y z =
+        let c = compose-accepted e s first second rows numbers out X Y file x y q in
+        (c.shape, one_set e file Z (compose_sets X Y) z c.accepted)
+
+    -- R40: on every storage, the set in the file composed gives what the first set and then the second give.
+    pub compose-meaning : (X Y Z : TransferSet) → read_set e first ≡ granted X → read_set e second ≡ granted Y
+        → read_set e file ≡ granted Z → (t : List Bool) → length t ≡ cells X.shape
+        → evaluate_set Z t ≡ evaluate_set Y (evaluate_set X t)
+    compose-meaning X Y Z x y z t long =
+        let (shape, is) = compose-is X Y Z x y z in
+        ap (λ a. evaluate_set a t) is ∙ compose-value X Y shape (whole first X x) (whole second Y y) t long
+
+  -- R40: either grouping of three files means the same.
+  pub grouping_meaning : (x y z xy yz left right : List ℕ) (a b c d f g h i j k l m : ℕ)
+      → compose e x y a b c ≡ granted xy → compose e xy z d f g ≡ granted left
+      → compose e y z h i j ≡ granted yz → compose e x yz k l m ≡ granted right
+      → (L R : TransferSet) → read_set e left ≡ granted L → read_set e right ≡ granted R
+      → (t : List Bool) → length t ≡ cells L.shape → evaluate_set L t ≡ evaluate_set R t
+  unfolding set_of
+  grouping_meaning x y z xy yz left right a b c d f g h i j k l m p q r u L R rl rr t long =
+      let (A, made-xy) = compose-granted_both x y a b c xy p in
+      let (B, made-yz) = compose-granted_both y z h i j yz r in
+      let X = A.X in
+      let Y = A.Y in
+      let Z = B.Y in
+      let same-Y : B.X ≡ Y = one_set e y B.X Y B.read_first A.read-second in
+      let y-z : Y.shape ≡ Z.shape = ap (λ (v : TransferSet). v.shape) (sym same-Y) ∙ made-yz.shape in
+      let (_, left_is) = compose-is xy z d f g left q (compose_sets X Y) Z L made-xy.accepted B.read-second rl in
+      let (_, right_is) = compose-is x yz k l m right u X (compose_sets B.X Z) R A.read_first made-yz.accepted rr in
+      ap (λ v. evaluate_set v t) left_is
+      ∙ compose_grouping X Y Z made-xy.shape y-z (whole x X A.read_first) (whole y Y A.read-second)
+      (whole z Z B.read-second) t (long ∙ ap (λ (v : TransferSet). cells v.shape) left_is)
+      ∙ sym (ap (λ v. evaluate_set v t) (right_is ∙ ap (λ v. compose_sets X (compose_sets v Z)) same-Y))
+
+-- ---- files, evaluated
+
 -- A storage is read back from its bytes.
 bits-read : (u : List Bool) → map (eqb 1) (storage_bytes u) ≡ u
 bits-read [] = refl
 bits-read (true ∷ u) = ap (λ l. true ∷ l) (bits-read u)
 bits-read (false ∷ u) = ap (λ l. false ∷ l) (bits-read u)
 
--- Two sets that were read from one file are the same.
-one_set : (e : Edition) (file : List ℕ) (X Y : TransferSet) → read_set e file ≡ granted X → read_set e file ≡ granted Y → X ≡ Y
-one_set e file X Y x y = cc
-
 module _ (e : Edition) (s : Sensible e) where
-  whole : (file : List ℕ) (X : TransferSet) → read_set e file ≡ granted X → Whole X
-  whole file X r = proper_whole (read_proper e file X r)
-
   -- R40: a composed file evaluates as the first and then the second.
   pub compose_files : (first second : List ℕ) (rows numbers out : ℕ) (bytes : List ℕ)
       → compose e first second rows numbers out ≡ granted bytes
       → (storage : List ℕ) (k l m : ℕ) (u v w : List Bool) → evaluate e first storage k ≡ granted u
       → evaluate e second (storage_bytes u) l ≡ granted v → evaluate e bytes storage m ≡ granted w → w ≡ v
   compose_files first second rows numbers out bytes q storage k l m u v w p r t =
-      let c = compose-granted e s first second rows numbers out bytes q in
       let x = evaluate-granted e first storage k u p in
       let y = evaluate-granted e second (storage_bytes u) l v r in
       let z = evaluate-granted e bytes storage m w t in
-      let same-x = one_set e first x.set c.one x.read c.read_one in
-      let same-y = one_set e second y.set c.two y.read c.read-two in
-      let same-z = one_set e bytes z.set (compose_sets c.one c.two) z.read c.made.accepted in
-      let b = map (eqb 1) storage in
-      let long : length b ≡ cells c.one.shape = length-map storage (eqb 1) ∙ x.long ∙ ap
-      (λ (a : TransferSet). cells a.shape) same-x in
-      let first-is : u ≡ evaluate_set c.one b = x.is ∙ ap (λ a. evaluate_set a b) same-x in
-      z.is ∙ ap (λ a. evaluate_set a b) same-z
-      ∙ compose-value c.one c.two c.made.shape (whole first c.one c.read_one)
-      (whole second c.two c.read-two) b long
-      ∙ sym (y.is ∙ ap (λ a. evaluate_set a (map (eqb 1) (storage_bytes u))) same-y
-      ∙ ap (evaluate_set c.two) (bits-read u ∙ first-is))
+      let means = compose-meaning e s first second rows numbers out bytes q x.set y.set z.set x.read y.read z.read in
+      z.is ∙ means (map (eqb 1) storage) (length-map storage (eqb 1) ∙ x.long)
+      ∙ sym (y.is ∙ ap (evaluate_set y.set) (bits-read u ∙ x.is))
 
   -- R40: either grouping of three files gives equal values.
   pub compose_groupings : (x y z xy yz left right : List ℕ) (a b c d f g h i j k l m : ℕ)
@@ -76,31 +117,8 @@ module _ (e : Edition) (s : Sensible e) where
       → (storage : List ℕ) (n o : ℕ) (v w : List Bool) → evaluate e left storage n ≡ granted v
       → evaluate e right storage o ≡ granted w
       → v ≡ w
-  unfolding set_of
   compose_groupings x y z xy yz left right a b c d f g h i j k l m p q r t storage n o v w ev ew =
-      let A = compose-granted e s x y a b c xy p in
-      let B = compose-granted e s xy z d f g left q in
-      let C = compose-granted e s y z h i j yz r in
-      let D = compose-granted e s x yz k l m right t in
-      let X = A.one in
-      let Y = A.two in
-      let Z = B.two in
-      let b-one : B.one ≡ compose_sets X Y = one_set e xy B.one (compose_sets X Y) B.read_one A.made.accepted in
-      let c-one : C.one ≡ Y = one_set e y C.one Y C.read_one A.read-two in
-      let c-two : C.two ≡ Z = one_set e z C.two Z C.read-two B.read-two in
-      let d-one : D.one ≡ X = one_set e x D.one X D.read_one A.read_one in
-      let d-two : D.two ≡ compose_sets C.one C.two = one_set e yz D.two _ D.read-two C.made.accepted in
-      let E = evaluate-granted e left storage n v ev in
-      let F = evaluate-granted e right storage o w ew in
-      let v-is : E.set ≡ compose_sets (compose_sets X Y) Z = one_set e left E.set _ E.read B.made.accepted ∙ ap
-      (λ u. compose_sets u Z) b-one in
-      let w-is : F.set ≡ compose_sets X (compose_sets Y Z) = cc
-      (one_set e right F.set _ F.read D.made.accepted, d-one, d-two, c-one, c-two) in
-      let bits = map (eqb 1) storage in
-      let yz-shape : Y.shape ≡ Z.shape = cc (c-one, c-two, C.made.shape) in
-      let long : length bits ≡ cells X.shape = length-map storage (eqb 1) ∙ E.long ∙ ap
-      (λ (u : TransferSet). cells u.shape) v-is in
-      E.is ∙ ap (λ u. evaluate_set u bits) v-is
-      ∙ compose_grouping X Y Z A.made.shape yz-shape (whole x X A.read_one) (whole y Y A.read-two)
-      (whole z Z B.read-two) bits long
-      ∙ sym (F.is ∙ ap (λ u. evaluate_set u bits) w-is)
+      let L = evaluate-granted e left storage n v ev in
+      let R = evaluate-granted e right storage o w ew in
+      let means = grouping_meaning e s x y z xy yz left right a b c d f g h i j k l m p q r t L.set R.set L.read R.read in
+      L.is ∙ means (map (eqb 1) storage) (length-map storage (eqb 1) ∙ L.long) ∙ sym R.is
