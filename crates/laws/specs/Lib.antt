@@ -29,3 +29,5 @@ pub mod Exact
 pub mod ExactRows
 pub mod Files
 pub mod Composition
+pub mod Swap
+pub mod Cut
