@@ -4,7 +4,7 @@
 use Prim.Native.Nat.{ℕ, zero, suc, ◌+◌, ◌-◌, ◌*◌, ◌≤◌, ◌<◌}
 use Rattle.std.specs.Prelude.{◌≡◌, Bool, true, false, not, ◌&&◌, List, length, get_or, take, drop, leb, ltb, eqb}
 use Rattle.std.proofs.Math.Path.{refl, fun_ext}
-use Rattle.std.proofs.Common.{ap, ◌∙◌, length-append, length-drop, take_all, length-take-le, get_or-take}
+use Rattle.std.proofs.Common.{ap, length-append, length-drop, take_all, length-take-le, get_or-take}
 use native.Mathlib.Omega.{arith}
 use Rattle.std.proofs.Math.Decide.{dec_lt}
 use borrow.Author.Tests.{leb-false, ltb-false, le-ltb, lt-ltb, lt-leb}
@@ -31,6 +31,7 @@ use Rattle.laws.specs.After.{Stands}
 use Rattle.laws.specs.Transfer.{transfer-stands}
 use Rattle.laws.specs.Squeeze.{squeeze-few}
 use Rattle.laws.specs.Compose.{set_of_proper}
+use Rattle.laws.specs.ExactRows.{EndFits, BuildFits, build-granted_exactly}
 
 -- ---- chains that go on alike
 
@@ -247,6 +248,20 @@ set-few : (sh : Shape) (h : Heads) → Stands (cells sh) h → length (set_of sh
 unfolding set_of
 set-few sh h H = squeeze-few H
 
+-- R59, R64: so the output of `tset` is long enough for what is built where its rows are enough.
+output_enough : (file : List ℕ) (P : Program) → read_program old file ≡ granted P → length (transfer P).tab ≤ 8192
+    → length (write_set old (program_set P)) ≤ 40957
+output_enough file P r t =
+    let S = transfer-stands P (read-wellformed old file P r) in
+    let proper = set_of_proper P.shape (transfer P) S old (read-shape old file P r) (omega arith) in
+    short-never (program_set P) proper (omega (arith, set-few P.shape (transfer P) S))
+
+-- Its rows are more than constants and cells.
+rows_enough : (file : List ℕ) (P : Program) → read_program old file ≡ granted P → leaves P.shape ≤ 8192
+rows_enough file P r =
+    let limits = shape-limits old P.shape (read-shape old file P r) in
+    omega (arith, limits.shallow, limits.most)
+
 -- R59, R64: in the room of `tset` only the heads and the rows of the table can be too few; the output is never too short.
 pub build-fixed : (file : List ℕ) → build old file 8192 8192 16384 40957 ≡ do
   P ← read_program old file
@@ -256,20 +271,22 @@ pub build-fixed : (file : List ℕ) → build old file 8192 8192 16384 40957 ≡
 unfolding build finish write_into
 build-fixed file =
     bind_same (grants_self (read_program old file)) λ P r.
-    let shaped = read-shape old file P r in
-    let limits = shape-limits old P.shape shaped in
-    let S = transfer-stands P (read-wellformed old file P r) in
-    rw (le-ltb 8192 (leaves P.shape) (omega (arith, limits.shallow, limits.most)))
+    rw (le-ltb 8192 (leaves P.shape) (rows_enough file P r))
     (check_same (ltb 16384 (heads_to_build P)) 10 0 _ _ λ _.
     check_same (ltb 8192 (length (transfer P).tab)) 10 8192 _ _ λ q.
     let few = ltb-false 8192 (length (transfer P).tab) q in
-    let z = set_of P.shape (transfer P) in
-    let proper = set_of_proper P.shape (transfer P) S old shaped (omega arith) in
-    rw (le-ltb 40957 (length (write_set old z)) (short-never z proper (omega (arith, set-few P.shape (transfer P) S)))))
+    rw (le-ltb 40957 (length (write_set old (program_set P))) (output_enough file P r few)))
 
 -- R64: so where the heads and the rows suffice, the set is built.
 pub build-enough : (file : List ℕ) (P : Program) → read_program old file ≡ granted P → heads_to_build P ≤ 16384
     → length (transfer P).tab ≤ 8192
     → build old file 8192 8192 16384 40957 ≡ granted (write_set old (program_set P))
 build-enough file P r h t =
-    build-fixed file ∙ rw (r, le-ltb 16384 (heads_to_build P) h, le-ltb 8192 (length (transfer P).tab) t)
+    let ends : EndFits old P.shape 8192 40957 (transfer P) = record { table = omega arith; output = output_enough file P r t } in
+    let fits : BuildFits old P 8192 8192 16384 40957 = record {
+      begins = rows_enough file P r;
+      numbered = omega arith;
+      headed = h;
+      ends = ends;
+    } in
+    (build-granted_exactly old file 8192 8192 16384 40957 (write_set old (program_set P))).1 (P, r, fits, refl)

@@ -99,6 +99,11 @@ compose-accepted e s first second rows numbers out X Y bytes x y q =
 
 -- ---- evaluating is what the machine leaves
 
+-- So many steps as the program's set stands for end with what evaluating that set gives.
+stops_at : (P : Program) (w : WellFormed P) (s : List Bool) → length s ≡ cells P.shape
+    → run P (transfer-does P w s).steps (due 0 s []) ≡ stopped (evaluate_set (program_set P) s)
+stops_at P w s e = (transfer-does P w s).runs [] ∙ ap stopped (sym (set_of_acts P.shape (transfer P) (transfer-stands P w) s e))
+
 -- The machine stops, within 2^n - 1 steps, with what evaluating the program's set gives.
 pub record Leaves (P : Program) (s : List Bool) : Type 0 where
   pub steps : ℕ
@@ -108,18 +113,17 @@ pub record Leaves (P : Program) (s : List Bool) : Type 0 where
 pub program_leaves : (P : Program) → WellFormed P → (s : List Bool) → length s ≡ cells P.shape → Leaves P s
 program_leaves P w s e =
     let d = transfer-does P w s in
-    let v = set_of_acts P.shape (transfer P) (transfer-stands P w) s e in
-    record { steps = d.steps; few = omega (arith, rw sub-zero at d.few); stops = d.runs [] ∙ ap stopped (sym v) }
+    record { steps = d.steps; few = omega (arith, rw sub-zero at d.few); stops = stops_at P w s e }
 
 -- So a granted scan leaves the same storage.
 pub scan-leaves : (P : Program) → WellFormed P → (s : List Bool) → length s ≡ cells P.shape → (budget : ℕ) (y : Scanned)
     → scan_program P budget s ≡ granted y
     → y.storage ≡ evaluate_set (program_set P) s
 scan-leaves P w s e budget y q =
-    let l = program_leaves P w s e in
+    let k = (transfer-does P w s).steps in
     let c = scan-whole P budget s y q in
-    let a = run_past P y.steps (y.steps + l.steps) (due 0 s []) y.storage c.stops (omega arith) in
-    let b = run_past P l.steps (y.steps + l.steps) (due 0 s []) (evaluate_set (program_set P) s) l.stops (omega arith) in
+    let a = run_past P y.steps (y.steps + k) (due 0 s []) y.storage c.stops (omega arith) in
+    let b = run_past P k (y.steps + k) (due 0 s []) (evaluate_set (program_set P) s) (stops_at P w s e) (omega arith) in
     cc (a, b)
 
 -- A storage that is granted has as many cells as it should, and is read bit by bit.
