@@ -273,7 +273,8 @@ build-fixed file =
     bind_same (grants_self (read_program old file)) λ P r.
     rw (le-ltb 8192 (leaves P.shape) (rows_enough file P r))
     (check_same (ltb 16384 (heads_to_build P)) 10 0 _ _ λ _.
-    check_same (ltb 8192 (length (transfer P).tab)) 10 8192 _ _ λ q.
+    check_same (ltb 8192 (length (transfer P).tab)) 10 8192
+    (λ _. write_into old (length (transfer P).tab) 40957 (program_set P)) (λ _. granted (write_set old (program_set P))) λ q.
     let few = ltb-false 8192 (length (transfer P).tab) q in
     rw (le-ltb 40957 (length (write_set old (program_set P))) (output_enough file P r few)))
 
