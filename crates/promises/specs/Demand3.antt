@@ -1,5 +1,5 @@
 -- Demand 3: the formulas are the program; composing is first then second, however three are grouped, and the unchanging set changes no byte.
-use Rattle.std.specs.Prelude.{ℕ, ◌-◌, ◌^◌, ◌≤◌, ◌≡◌, Bool, List, [], map, take, eqb}
+use Rattle.std.specs.Prelude.{ℕ, ◌-◌, ◌^◌, ◌≤◌, ◌≡◌, Bool, true, false, List, [], ◌∷◌, map, take, eqb}
 use Rattle.std.proofs.Common.{sym, ◌∙◌}
 use Rattle.std.proofs.Math.Path.{ap}
 use Rattle.std.proofs.Math.ListN.{length, length-map}
@@ -10,7 +10,10 @@ use Rattle.rules.specs.ProgramFile.{Program, read_program}
 use Rattle.rules.specs.Machine.{due, stopped, run}
 use Rattle.rules.specs.SetFile.{TransferSet, read_set}
 use Rattle.rules.specs.Operations.{storage_bytes, evaluate_set, set_of, program_set, scan, evaluate, write_unchanging}
+use Rattle.rules.specs.Bench.{swap}
 use Rattle.laws.specs.Bytes.{Bytes}
+use Rattle.laws.specs.Swap as Swap
+use Rattle.laws.specs.Swap.{swap_program}
 use Rattle.laws.specs.ProgramFile.{read-wellformed}
 use Rattle.laws.specs.Files.{old_sensible, build-accepted, program_leaves, evaluate-granted, evaluate-is-scan}
 use Rattle.laws.specs.Composition.{compose_files, compose_groupings}
@@ -81,6 +84,18 @@ module _ (file : List ℕ) (rows numbers heads n : ℕ) (before after : List ℕ
       let same = evaluate-is-scan old old_sensible file rows numbers heads (length before) set
       (built-front file rows numbers heads n before after c) storage budget lent x.what y.what x.is y.is in
       x.leaves ∙ ap storage_bytes (sym same) ∙ sym y.leaves
+
+-- The swap program, for all five bits of every storage: the machine exchanges its two outputs,
+pub swap_is_a_swap : (a b f e₁ e₂ : Bool)
+    → run swap_program 7 (due 0 (a ∷ b ∷ f ∷ e₁ ∷ e₂ ∷ []) []) ≡ stopped (b ∷ a ∷ true ∷ false ∷ false ∷ [])
+swap_is_a_swap = Swap.swap-is_a_swap
+
+-- and so does the set in the file that `build` writes of the file `swap`, which is read as that program (`Swap.swap-read`).
+pub swap_built : (rows numbers heads n : ℕ) (before after : List ℕ) → Builds swap rows numbers heads (B.Length n) before after
+    → (z : TransferSet) → read_set old (take n after) ≡ granted z
+    → (a b f e₁ e₂ : Bool) → evaluate_set z (a ∷ b ∷ f ∷ e₁ ∷ e₂ ∷ []) ≡ b ∷ a ∷ true ∷ false ∷ false ∷ []
+swap_built rows numbers heads n before after c z r a b f e₁ e₂ =
+    Swap.swap-built a b f e₁ e₂ rows numbers heads (length before) (take n after) (built-front swap rows numbers heads n before after c) z r
 
 -- ---- composing
 
