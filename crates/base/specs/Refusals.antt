@@ -1,6 +1,8 @@
 -- A refusal is told by its number and its place, so two of the same answer are the same.
-use Rattle.std.specs.Prelude.{ℕ, ◌≡◌, refl, cond, eqb}
-use Rattle.base.specs.Answers.{number_of, place_of}
+use Rattle.std.specs.Prelude.{ℕ, ◌≡◌, refl, cond, eqb, Ok, Err}
+use Rattle.std.proofs.Common.{sym, ap, ◌∙◌}
+use Rattle.rules.specs.Verdict.{Verdict, granted, refused}
+use Rattle.base.specs.Answers.{Answer, number_of, place_of, verdict_of}
 use Rattle.base.specs.declared.refusal.Refusal.{Refusal}
 use Rattle.base.specs.declared.refusal.Refusal.TheVariants.{EndsEarly, WrongMark, OutOfRange, Misplaced, UnknownCode}
 use Rattle.base.specs.declared.refusal.Refusal.TheVariants.{BadExpression, NotWritable, BadLabel, LastNotEnd, NoRoom}
@@ -38,3 +40,17 @@ refusal_back (BudgetSpent i) = refl
 refusal_back ShapesDiffer = refl
 refusal_back (BadRow p) = refl
 refusal_back (BadStorage p) = refl
+
+-- The answer that a verdict is.
+answer_of : {A : Type 0} → Verdict A → Answer A
+answer_of (granted a) = Ok a
+answer_of (refused n p) = Err (refusal_of n p)
+
+answer_back : {A : Type 0} (r : Answer A) → answer_of (verdict_of r) ≡ r
+unfolding answer_of
+answer_back (Ok a) = refl
+answer_back (Err x) = ap Err (refusal_back x)
+
+-- R46, R47: two answers that are the same in the words of the rules are the same answer.
+pub answer_only : {A : Type 0} (v : Verdict A) (a b : Answer A) → verdict_of a ≡ v → verdict_of b ≡ v → a ≡ b
+answer_only v a b p q = sym (answer_back a) ∙ ap answer_of (p ∙ sym q) ∙ answer_back b

@@ -2,23 +2,23 @@
 ghost use Rattle.std.specs.Prelude.{◌≡◌, ◌+◌, ◌<◌};
 
 // A cell's number.
-#[derive(Clone, Copy)]
+#[derive(Clone, Copy, PartialEq, Eq, PartialOrd, Ord)]
 pub struct Cell(pub u16);
 
 // A row's number.
-#[derive(Clone, Copy)]
+#[derive(Clone, Copy, PartialEq, Eq, PartialOrd, Ord)]
 pub struct Row(pub u16);
 
 // An instruction's number.
-#[derive(Clone, Copy)]
+#[derive(Clone, Copy, PartialEq, Eq, PartialOrd, Ord)]
 pub struct Instr(pub u16);
 
-impl Cell {
-    // R5: the cell that a byte names.
-    pub fn of_byte(b: u8) -> Cell
+// R5: the cell that a byte names.
+impl From<u8> for Cell {
+    fn from(b: u8) -> Cell
         ensures { result.0 ≡ b }
     {
-        Cell(b as u16)
+        Cell(u16::from(b))
     }
 }
 

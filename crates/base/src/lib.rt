@@ -5,4 +5,3 @@ pub mod bytes;
 pub mod kinds;
 pub mod refusal;
 pub mod shape;
-pub mod work;

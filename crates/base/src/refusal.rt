@@ -3,8 +3,9 @@ ghost use Rattle.std.specs.Prelude.{◌≡◌};
 ghost use Rattle.base.specs.Answers.{number_of, place_of};
 
 use crate::kinds::Instr;
+use std::fmt;
 
-#[derive(Clone, Copy)]
+#[derive(Clone, Copy, PartialEq, Eq)]
 pub enum Refusal {
     // 1
     EndsEarly(usize),
@@ -36,28 +37,56 @@ pub enum Refusal {
     BadStorage(usize),
 }
 
-// The number of a refusal, and its place.
-#[derive(Clone, Copy)]
-pub struct Shown(pub usize, pub usize);
+impl Refusal {
+    // R46: the number of a refusal.
+    pub fn number(self) -> usize
+        ensures { result ≡ number_of self }
+    {
+        match self {
+            Refusal::EndsEarly(_) => 1,
+            Refusal::WrongMark => 2,
+            Refusal::OutOfRange(_) => 3,
+            Refusal::Misplaced(_) => 4,
+            Refusal::UnknownCode(_) => 5,
+            Refusal::BadExpression(_) => 6,
+            Refusal::NotWritable(_) => 7,
+            Refusal::BadLabel(_) => 8,
+            Refusal::LastNotEnd(_) => 9,
+            Refusal::NoRoom(_) => 10,
+            Refusal::BudgetSpent(_) => 11,
+            Refusal::ShapesDiffer => 12,
+            Refusal::BadRow(_) => 13,
+            Refusal::BadStorage(_) => 14,
+        }
+    }
 
-// R46: what a refusal is shown as.
-pub fn number_refusal(x: Refusal) -> Shown
-    ensures { (result.0 ≡ number_of x) × (result.1 ≡ place_of x) }
-{
-    match x {
-        Refusal::EndsEarly(p) => Shown(1, p),
-        Refusal::WrongMark => Shown(2, 0),
-        Refusal::OutOfRange(p) => Shown(3, p),
-        Refusal::Misplaced(p) => Shown(4, p),
-        Refusal::UnknownCode(p) => Shown(5, p),
-        Refusal::BadExpression(p) => Shown(6, p),
-        Refusal::NotWritable(p) => Shown(7, p),
-        Refusal::BadLabel(p) => Shown(8, p),
-        Refusal::LastNotEnd(p) => Shown(9, p),
-        Refusal::NoRoom(p) => Shown(10, p as usize),
-        Refusal::BudgetSpent(i) => Shown(11, i.0 as usize),
-        Refusal::ShapesDiffer => Shown(12, 0),
-        Refusal::BadRow(p) => Shown(13, p),
-        Refusal::BadStorage(p) => Shown(14, p),
+    // R46: its place.
+    pub fn place(self) -> usize
+        ensures { result ≡ place_of self }
+    {
+        match self {
+            Refusal::WrongMark | Refusal::ShapesDiffer => 0,
+            Refusal::NoRoom(p) => p as usize,
+            Refusal::BudgetSpent(i) => i.0 as usize,
+            Refusal::EndsEarly(p)
+            | Refusal::OutOfRange(p)
+            | Refusal::Misplaced(p)
+            | Refusal::UnknownCode(p)
+            | Refusal::BadExpression(p)
+            | Refusal::NotWritable(p)
+            | Refusal::BadLabel(p)
+            | Refusal::LastNotEnd(p)
+            | Refusal::BadRow(p)
+            | Refusal::BadStorage(p) => p,
+        }
+    }
+}
+
+// R63: a refusal as it is shown, without the end of its line.
+impl fmt::Display for Refusal {
+    fn fmt<W: fmt::Write>(&self, f: &mut fmt::Formatter<W>) -> fmt::Result {
+        let number = self.number();
+        let place = self.place();
+        write!(f, "refused {number} at {place}")
     }
 }

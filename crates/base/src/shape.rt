@@ -6,7 +6,7 @@ ghost use Rattle.base.specs.Answers.{shape_of};
 use crate::kinds::Cell;
 
 // R1: a stack depth and how many inputs, outputs and memory bits.
-#[derive(Clone, Copy)]
+#[derive(Clone, Copy, PartialEq, Eq)]
 pub struct Shape {
     pub depth: u16,
     pub inputs: u16,

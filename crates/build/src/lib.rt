@@ -8,7 +8,8 @@ ghost use Rattle.rules.specs.ProgramFile.{read_program};
 ghost use Rattle.rules.specs.Rows.{base};
 ghost use Rattle.rules.specs.Operations.{work_after};
 ghost use Rattle.program.specs.Standing.{program_in};
-ghost use Rattle.rows.specs.Table.{Filled};
+ghost use Rattle.table.specs.Append.{Kept};
+ghost use Rattle.rows.specs.Table.{Holds};
 ghost use Rattle.writer.specs.Writes.{Writes};
 ghost use Rattle.build.specs.Contract.{answer, Builds, Ready};
 
@@ -16,38 +17,26 @@ use base::bytes::word;
 use base::kinds::Row;
 use base::refusal::Refusal;
 use base::shape::Shape;
-use base::work::{clear_numbers, clear_rows};
+use program::check_program;
 use program::header::shape_at;
-use program::{Checked, check_program};
 use rows::node::{Node, entry_of};
-use table::{Table, append_to, room_in};
+use table::{Table, room_in};
 use turns::build_turns;
-use writer::{Written, write_finished};
+use writer::write_finished;
 
-// How building ended.
-#[derive(Clone, Copy)]
-pub enum Built {
-    // The set was written, in so many bytes.
-    Length(usize),
-    Refused(Refusal),
-}
-
-// R26: the constants and the cells, appended one after another.
-fn put_leaves(rows: &mut [u64], cells: usize) -> Table
-    requires { (2 + cells ≤ length rows.old) × (2 + cells ≤ 65535) }
-    ensures { Filled rows.new result (2 + cells) (base cells) }
+// R26: the constants and the cells, appended to an empty table one after another.
+fn put_leaves(cells: usize, table: &mut Table) -> Result<(), Refusal>
+    requires { (2 + cells ≤ 65535) × (table.old.used ≡ 0) }
+    ensures kept { Kept table.old table.new }
+    ensures holds { Holds table.old result table.new (base cells) }
 {
-    let leaves = 2 + cells;
-    let mut table = Table::EMPTY;
-    let mut i = 0;
-    while i < leaves {
-        table = append_to(rows, table, entry_of(Node::Leaf(Row(i as u16))));
-        i += 1;
+    for i in 0..2 + cells {
+        table.append(entry_of(Node::Leaf(Row(i as u16))))?;
     }
-    table
+    Ok(())
 }
 
-// R38, R39: builds all T(i) in one table, and writes the set of T(0).
+// R38, R39: builds all T(i) in one table, and writes the set of T(0). An append that finds no row left is 10.
 fn build_program(
     file: &[u8],
     shape: Shape,
@@ -56,15 +45,16 @@ fn build_program(
     numbers: &mut [u16],
     heads: &mut [u16],
     out: &mut [u8],
-) -> Written
+) -> Result<usize, Refusal>
     requires { Ready file.now shape n (length rows.old) (length numbers.old) (length heads.old) }
     ensures { Writes (answer file.now (length rows.old) (length numbers.old)
         (length heads.old) out.old) result out.old out.new }
 {
     let cells = shape.cells();
-    let start = put_leaves(rows, cells);
-    let table = build_turns(file, shape, n, rows, start, numbers, heads);
-    write_finished(shape, &heads[..cells], rows, table, numbers, out)
+    let mut table = Table::empty(rows);
+    put_leaves(cells, &mut table)?;
+    build_turns(file, shape, n, &mut table, numbers, heads)?;
+    write_finished(shape, &heads[..cells], &table, numbers, out)
 }
 
 // R51, R54, R55: builds the set of an accepted file. Each constant and cell has a row (10), each row that may be used a number, and
@@ -75,7 +65,7 @@ fn build_accepted(
     numbers: &mut [u16],
     heads: &mut [u16],
     out: &mut [u8],
-) -> Written
+) -> Result<usize, Refusal>
     requires { read_program old file.now ≡ granted (program_in file.now) }
     ensures { Writes (answer file.now (length rows.old) (length numbers.old)
         (length heads.old) out.old) result out.old out.new }
@@ -84,33 +74,15 @@ fn build_accepted(
     let cells = shape.cells();
     let n = word(file, 5);
     if rows.len() < 2 + cells {
-        return Written::Refused(Refusal::NoRoom(0));
+        return Err(Refusal::NoRoom(0));
     }
     if numbers.len() < room_in(rows.len()) {
-        return Written::Refused(Refusal::NoRoom(0));
+        return Err(Refusal::NoRoom(0));
     }
     if heads.len() < n * cells {
-        return Written::Refused(Refusal::NoRoom(0));
+        return Err(Refusal::NoRoom(0));
     }
     build_program(file, shape, n, rows, numbers, heads, out)
-}
-
-// Builds an accepted file.
-fn build_granted(
-    file: &[u8],
-    rows: &mut [u64],
-    numbers: &mut [u16],
-    heads: &mut [u16],
-    out: &mut [u8],
-) -> Built
-    requires { read_program old file.now ≡ granted (program_in file.now) }
-    ensures { Builds file.now (length rows.old) (length numbers.old)
-        (length heads.old) result out.old out.new }
-{
-    match build_accepted(file, rows, numbers, heads, out) {
-        Written::Length(n) => Built::Length(n),
-        Written::Refused(x) => Built::Refused(x),
-    }
 }
 
 // R51: the file is judged first.
@@ -120,14 +92,12 @@ fn build_checked(
     numbers: &mut [u16],
     heads: &mut [u16],
     out: &mut [u8],
-) -> Built
+) -> Result<usize, Refusal>
     ensures { Builds file.now (length rows.old) (length numbers.old)
         (length heads.old) result out.old out.new }
 {
-    match check_program(file) {
-        Checked::Granted => build_granted(file, rows, numbers, heads, out),
-        Checked::Refused(x) => Built::Refused(x),
-    }
+    check_program(file)?;
+    build_accepted(file, rows, numbers, heads, out)
 }
 
 // R39, R51, R52, R55: builds the transfer set of a program file: the set that evaluates to what a scan leaves. The file is judged
@@ -138,7 +108,7 @@ pub fn build(
     numbers: &mut [u16],
     heads: &mut [u16],
     out: &mut [u8],
-) -> Built
+) -> Result<usize, Refusal>
     ensures builds { Builds file.now (length rows.old) (length numbers.old)
         (length heads.old) result out.old out.new }
     ensures rows_after { rows.new ≡ work_after rows.old }
@@ -146,8 +116,8 @@ pub fn build(
     ensures heads_after { heads.new ≡ work_after heads.old }
 {
     let r = build_checked(file, rows, numbers, heads, out);
-    clear_rows(rows);
-    clear_numbers(numbers);
-    clear_numbers(heads);
+    rows.fill(0);
+    numbers.fill(0);
+    heads.fill(0);
     r
 }

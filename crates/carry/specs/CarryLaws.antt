@@ -1,11 +1,12 @@
 -- Laws of rewriting the second set onto the first: new numbers, one row more, and the heads.
 use Prim.Native.Nat.{ℕ, zero, suc, ◌+◌, ◌-◌, ◌≤◌, ◌<◌}
-use Rattle.std.specs.Prelude.{◌≡◌, Bool, true, false, List, [], ◌∷◌, ◌++◌, length, set}
+use Rattle.std.specs.Prelude.{◌≡◌, true, List, [], ◌∷◌, ◌++◌, length, set, Ok, Err}
 use Rattle.std.proofs.Math.Path.{refl, ap}
-use Rattle.std.proofs.Common.{ap₂, sym, ◌∙◌, subst, length-set, get_or-set_same, get_or-set_other}
+use Rattle.std.proofs.Common.{ap₂, sym, ◌∙◌, subst, length-set, add-one, get_or-set_same, get_or-set_other}
 use native.Mathlib.Omega.{arith}
 use Rattle.std.proofs.Math.Decide.{dec_lt}
 use Rattle.std.proofs.Math.ListN.{get_or}
+use Rattle.std.proofs.lemmas.List.{length-map, get_or-map}
 use borrow.Author.Tests.{lt-ltb, le-ltb}
 use Rattle.rules.specs.Edition.{old}
 use Rattle.rules.specs.Lists.{number_at}
@@ -24,19 +25,18 @@ use Rattle.laws.specs.Squeeze.{ren, carry-op}
 use Rattle.laws.specs.Named.{all_reached}
 use Rattle.laws.specs.Compose.{left-carried}
 use Rattle.laws.specs.Room.{add-one-row}
-use Rattle.base.specs.Answers.{shape_of}
+use Rattle.base.specs.Answers.{Answer, shape_of}
 use Rattle.base.specs.declared.shape.Shape.{Shape}
 use Rattle.base.specs.declared.kinds.Row as K
-use Rattle.storage.specs.Moves.{Replacing, mapping_more, mapping_all}
 use Rattle.table.specs.declared.Table.{Table}
 use Rattle.rows.specs.Entries.{node_row}
-use Rattle.rows.specs.Table.{Holds, Filled, Addable, Adds, Gives}
-use Rattle.rows.specs.Stored.{stored-length, filled-holds}
+use Rattle.base.specs.declared.refusal.Refusal.{Refusal}
+use Rattle.table.specs.Append.{Kept}
+use Rattle.rows.specs.Table.{Stored, Exceeds, Addable, Adds, Gives}
+use Rattle.rows.specs.Stored.{stored-length, exceeds-more}
 use Rattle.rows.specs.Adding.{holds-add}
-use Rattle.rows.specs.Making.{add-still, open_before}
+use Rattle.rows.specs.Making.{carry-longer}
 use Rattle.rows.specs.declared.node.Node.{Node}
-use Rattle.rows.specs.declared.node.Node.TheVariants.{Leaf, Not, Two}
-use Rattle.rows.specs.declared.adding.Added.{Added}
 use Rattle.sets.specs.Spelt.{set_in, rows_in, Inside, sized_inside, taken_sized, spelt_row, spelt-row, spelt-shape, spelt-length, spelt-head, spelt-heads, taken_proper, taken-canonical}
 use Rattle.carry.specs.Carrying.{Pair, Known, new_number, renumbered, carried, Carrying, Moving, new_heads}
 
@@ -59,28 +59,6 @@ module _ (first : List ℕ) (leaves : ℕ) (numbers : List ℕ) (i : ℕ) where
 pub noted-at : (first : List ℕ) (sh : R.Shape) (numbers : List ℕ) (i C : ℕ) → C ≡ cells sh → 2 ≤ i → 2 + C ≤ i
     → get_or numbers (i - (2 + C)) 0 ≡ new_number first (leaves sh) numbers i
 noted-at first sh numbers i C e h l = rw e (number-noted first (leaves sh) numbers i h (omega arith))
-
--- ---- nodes by their case
-
-module _ (n : Node) (first : List ℕ) (l : ℕ) (numbers : List ℕ) where
-  pub known-not : (a : K.Row) → n ≡ Not a → Operands (Known first l (length numbers)) (node_row n)
-      → Known first l (length numbers) a.0
-  known-not a e h = rw e at h
-
-  pub known_two : (o : Bool) (a b : K.Row) → n ≡ Two o a b → Operands (Known first l (length numbers)) (node_row n)
-      → Known first l (length numbers) a.0 × Known first l (length numbers) b.0
-  known_two o a b e h = rw e at h
-
-  pub new-leaf : (i : K.Row) → n ≡ Leaf i → leaf i.0 ≡ renumbered first l numbers (node_row n)
-  new-leaf i e = rw e refl
-
-  pub new-not : (a x : K.Row) → n ≡ Not a → x.0 ≡ new_number first l numbers a.0
-      → inv x.0 ≡ renumbered first l numbers (node_row n)
-  new-not a x e q = rw e (ap inv q)
-
-  pub new_two : (o : Bool) (a b x y : K.Row) → n ≡ Two o a b → x.0 ≡ new_number first l numbers a.0
-      → y.0 ≡ new_number first l numbers b.0 → bin o x.0 y.0 ≡ renumbered first l numbers (node_row n)
-  new_two o a b x y e q r = rw e (ap₂ {C = Row} (bin o) q r)
 
 -- ---- two files
 
@@ -228,15 +206,12 @@ module _ (first second : List ℕ) (shape : Shape) (p : Pair first second shape)
         (sized_inside second (shape_at old second) (rows_in second) (2 + c + j) (taken_sized second p.two)
         (omega (arith, ap cells second-shape)))
 
-    pub row-few : 2 + c + j < 65536
-    row-few = omega (arith, p.two.room, ap cells second-shape)
-
     pub row-place : (n : Node) → node_row n ≡ spelt_row second (shape_of shape) (2 + c + j)
         → node_row n ≡ spelt_row second (shape_of shape) (L + j)
     row-place n q = q ∙ ap (λ k. spelt_row second (shape_of shape) (2 + k + j)) e
 
   -- The row as the code reads it and renumbers it.
-  module _ (rows numbers : List ℕ) (s : Table) (j : ℕ) (g : Carrying first second shape rows s numbers j) (h : j < rows_in second)
+  module _ (numbers : List ℕ) (s : Table) (j : ℕ) (g : Carrying first second shape s numbers j) (h : j < rows_in second)
       (n : Node) (read : node_row n ≡ spelt_row second (shape_of shape) (L + j)) where
     row_is : node_row n ≡ row j
     row_is =
@@ -258,58 +233,60 @@ module _ (first second : List ℕ) (shape : Shape) (p : Pair first second shape)
     row-known = rw row_is (known-row (row j) (row-ready j h))
 
     module _ (m : Node) (e : node_row m ≡ renumbered first L numbers (node_row n)) where
-      -- Where the table is not refused, the operation is the one that the rules add.
-      new_is : s.refused ≡ false → node_row m ≡ new j
-      new_is f =
+      -- The operation is the one that the rules add.
+      new_is : node_row m ≡ new j
+      new_is =
           let below = canonical-below canon_y (L + j) (omega (arith, size_y)) in
           let ops = reaches-operands Y.tab canon_y Y.heads (L + j) (row j) (omega (arith, size_y)) refl
           (reached (L + j) (omega arith) (omega (arith, size_y))) in
-          e ∙ ap (renumbered first L numbers) row_is ∙ renumbered-is numbers j (g.noted f) (row j) below ops
+          e ∙ ap (renumbered first L numbers) row_is ∙ renumbered-is numbers j g.noted (row j) below ops
 
-      pub new-addable : s.refused ≡ false → Addable rows s.used (node_row m)
-      new-addable f =
-          let k = g.holds.kept f in
-          record {
-            held = k.held;
-            ready = rw (new_is f, ← stored-length k) (new-ready j h);
-          }
+      pub new-addable : Addable s (node_row m)
+      new-addable = record {
+        held = g.stored.held;
+        ready = rw (new_is, ← stored-length g.stored) (new-ready j h);
+      }
 
-      module _ (x : Added) (after : List ℕ) (a : Adds rows s m x after) (size : length after ≡ length rows) where
-        gives : Gives after x (add (M (L + j)).tab (new j))
-        gives = holds-add (carried-canonical (L + j) (omega (arith, size_y))) g.holds a size (new j) (new-ready j h) new_is
+      gives : (r : Answer K.Row) (s' : Table) → Adds s m r s' → Gives s r s' (add (M (L + j)).tab (new j))
+      gives r s' a = holds-add (carried-canonical (L + j) (omega (arith, size_y))) g.stored a (new j) (new-ready j h) new_is
 
-        pub carrying-more : Carrying first second shape after x.table (set numbers j x.row.0) (j + 1)
-        carrying-more =
-            let st = step j h in
-            let z : j + 1 ≡ suc j = omega arith in
-            let one = add-one-row (M (L + j)).tab (new j) in
-            rw z (record {
-              pair = p;
-              low = omega arith;
-              long = rw length-set g.long;
-              few = rw st.tab (omega (arith, g.few, one));
-              holds = rw st.tab gives.holds;
-              noted = λ f i l. elim (dec_lt i j) [
-                | yes k ↦ rw (st.news, snoc_old (M (L + j)).new _ (L + j) (carry-size add X.tab X.heads Y.tab Y.heads (L + j)) (L + i) (omega arith))
-                    (get_or-set_other numbers j i x.row.0 0 (omega arith) ∙ g.noted (open_before (add-still a) f) i k)
-                | no k ↦
-                    let u : i ≡ j = omega arith in
-                    rw (
-                      u,
-                      st.news,
-                      snoc_last (M (L + j)).new _ (L + j)
-                          (carry-size add X.tab X.heads Y.tab Y.heads (L + j)),
-                    )
-                    (get_or-set_same numbers j x.row.0 0 (omega (arith, g.long)) ∙ gives.row f)
-              ];
-            })
+      pub carrying-more : (x : K.Row) (s' : Table) → Adds s m (Ok x) s' → Carrying first second shape s' (set numbers j x.0) (j + 1)
+      carrying-more x s' a =
+          let st = step j h in
+          let p = gives (Ok x) s' a in
+          let one = add-one-row (M (L + j)).tab (new j) in
+          rw add-one (record {
+            pair = g.pair;
+            low = omega arith;
+            long = rw length-set g.long;
+            few = rw st.tab (omega (arith, g.few, one));
+            stored = rw st.tab p.0;
+            noted = λ i l. elim (dec_lt i j) [
+              | yes k ↦ rw (st.news, snoc_old (M (L + j)).new _ (L + j) (carry-size add X.tab X.heads Y.tab Y.heads (L + j)) (L + i) (omega arith))
+                  (get_or-set_other numbers j i x.0 0 (omega arith) ∙ g.noted i k)
+              | no k ↦
+                  let u : i ≡ j = omega arith in
+                  rw (
+                    u,
+                    st.news,
+                    snoc_last (M (L + j)).new _ (L + j)
+                        (carry-size add X.tab X.heads Y.tab Y.heads (L + j)),
+                  )
+                  (get_or-set_same numbers j x.0 0 (omega (arith, g.long)) ∙ p.1)
+            ];
+          })
+
+      pub carrying-full : (x : Refusal) (s' : Table) → Adds s m (Err x) s' → Exceeds s x (M (L + (j + 1))).tab
+      carrying-full x s' a =
+          let z : j + 1 ≡ suc j = omega arith in
+          rw (z, (step j h).tab) (gives (Err x) s' a)
 
   -- ---- the start and the end
 
   -- Before any row of the second set, the table is that of the first.
-  pub carrying_start : (rows numbers : List ℕ) (s : Table) (total : ℕ) → Filled rows s total X.tab
-      → rows_in second ≤ length numbers → Carrying first second shape rows s numbers 0
-  carrying_start rows numbers s total st long =
+  pub carrying_start : (numbers : List ℕ) (s : Table) → Stored s X.tab → rows_in second ≤ length numbers
+      → Carrying first second shape s numbers 0
+  carrying_start numbers s st long =
       let left = left-carried X.tab X.heads Y.tab Y.heads canon_y L (omega arith) in
       let z : L + 0 ≡ L = omega arith in
       let tab : (M (L + 0)).tab ≡ X.tab = ap (λ k. (M k).tab) z ∙ left.tab in
@@ -318,30 +295,30 @@ module _ (first second : List ℕ) (shape : Shape) (p : Pair first second shape)
         low = omega arith;
         long = long;
         few = rw tab (omega arith);
-        holds = rw tab (filled-holds st);
-        noted = λ f i l. absurd (omega arith);
+        stored = rw tab st;
+        noted = λ i l. absurd (omega arith);
       }
 
   -- All rows of the second set: the composed table.
-  carried_all : (M (L + rows_in second)).tab ≡ (composed X Y).tab
+  pub carried_all : (M (L + rows_in second)).tab ≡ (composed X Y).tab
   unfolding after
   carried_all = ap (λ k. (M k).tab) (sym size_y)
 
-  module _ (rows numbers : List ℕ) (s : Table) (g : Carrying first second shape rows s numbers (rows_in second)) where
-    pub composed-holds : Holds rows s (composed X Y).tab
-    composed-holds = rw carried_all at g.holds
+  module _ (numbers : List ℕ) (s : Table) (g : Carrying first second shape s numbers (rows_in second)) where
+    pub composed-holds : Stored s (composed X Y).tab
+    composed-holds = rw carried_all at g.stored
 
     pub composed-few : length (composed X Y).tab ≤ length X.tab + rows_in second
     composed-few = rw carried_all at g.few
 
     -- R34: the heads of the second set, renumbered, are those of the composed set.
-    pub heads-moved : s.refused ≡ false → new_heads first second shape numbers ≡ (composed X Y).heads
+    pub heads-moved : new_heads first second shape numbers ≡ (composed X Y).heads
     unfolding after
-    heads-moved f =
+    heads-moved =
         map_ext (new_number first L numbers) (λ h. get_or (M (length Y.tab)).new h 0) 0 Y.heads λ c l.
         let head = get_or Y.heads c 0 in
         let asked = needs_keeps Y.tab (length Y.tab) head Y.heads (elem_at Y.heads c 0 l) in
-        number-carried numbers (rows_in second) (g.noted f) head (omega (arith, stands_y.low c, size_y)) asked
+        number-carried numbers (rows_in second) g.noted head (omega (arith, stands_y.low c, size_y)) asked
         ∙ ap (λ k. get_or (M k).new head 0) (sym size_y)
 
   -- ---- the heads, one by one
@@ -349,9 +326,6 @@ module _ (first second : List ℕ) (shape : Shape) (p : Pair first second shape)
   module _ (numbers : List ℕ) (n : ℕ) (w : Moving first second shape numbers n) where
     abbrev given : List ℕ
     given = new_heads first second shape numbers
-
-    pub head-there : (c : ℕ) → c < n → head_at old c + 2 ≤ length second
-    head-there c h = omega (arith, w.count, p.two.size, ap cells second-shape)
 
     head-is : (c h : ℕ) → c < n → h ≡ number_at 2 second (head_at old c) → h ≡ get_or Y.heads c 0
     head-is c h l q =
@@ -363,19 +337,17 @@ module _ (first second : List ℕ) (shape : Shape) (p : Pair first second shape)
       noted = λ a. omega (arith, head-is c h l q, stands_y.low c, size_y, w.long);
     }
 
-    -- One head more a turn, and all of them.
-    pub heads-more : (d u : List ℕ) (c h v : ℕ) → length d ≡ n → Replacing d 0 given u c → c < length u
-        → h ≡ number_at 2 second (head_at old c) → v ≡ new_number first L numbers h → Replacing d 0 given (set u c v) (c + 1)
-    heads-more d u c h v size f l q e =
-        mapping_more (new_number first L numbers) Y.heads (omega (arith, heads_y, w.count)) 0 f l
-        (e ∙ ap (new_number first L numbers) (head-is c h (omega (arith, f.size)) q))
+    -- As many as there are places, each in its own.
+    pub given-length : length given ≡ n
+    given-length = length-map Y.heads (new_number first L numbers) ∙ heads_y ∙ sym w.count
 
-    pub heads_all : (d u : List ℕ) (c : ℕ) → length d ≡ n → Replacing d 0 given u c → length u ≤ c → u ≡ given
-    heads_all d u c size f h = mapping_all (new_number first L numbers) Y.heads (omega (arith, heads_y, w.count)) f h
+    pub given-at : (c h v : ℕ) → c < n → h ≡ number_at 2 second (head_at old c) → v ≡ new_number first L numbers h → v ≡ get_or given c 0
+    given-at c h v l q e =
+        e ∙ ap (new_number first L numbers) (head-is c h l q)
+        ∙ sym (get_or-map (new_number first L numbers) Y.heads c 0 0 (omega (arith, heads_y, w.count)))
 
--- The turn after the last row.
-pub carrying_all : (first second : List ℕ) (shape : Shape) (rows : List ℕ) (s : Table) (numbers : List ℕ) (j : ℕ)
-    → Carrying first second shape rows s numbers j → rows_in second ≤ j → Carrying first second shape rows s numbers (rows_in second)
-carrying_all first second shape rows s numbers j g h =
-    let z : j ≡ rows_in second = omega (arith, g.low) in
-    rw z at g
+-- No row is left for a row of the second set, so none is for all of them.
+pub carrying-over : (first second : List ℕ) (shape : Shape) {s₀ s : Table} {x : Refusal} (j : ℕ) → Kept s₀ s → j < rows_in second
+    → Exceeds s x (carried first second (leaves (shape_of shape) + (j + 1))).tab
+    → Exceeds s₀ x (carried first second (leaves (shape_of shape) + rows_in second)).tab
+carrying-over first second shape j k h o = exceeds-more k o (carry-longer _ _ _ _ _ _ (omega arith))

@@ -1,23 +1,23 @@
 -- What rewriting the rows of the second set has to know and leaves, after so many rows.
-use Rattle.std.specs.Prelude.{ℕ, ◌+◌, ◌-◌, ◌≤◌, ◌<◌, ◌≡◌, false, cond, List, map, length, get_or, ltb}
+use Rattle.std.specs.Prelude.{ℕ, ◌+◌, ◌-◌, ◌≤◌, ◌<◌, ◌≡◌, cond, List, map, length, get_or, ltb}
 use Rattle.rules.specs.Edition.{old}
 use Rattle.rules.specs.Lists.{number_at}
 use Rattle.rules.specs.Shape.{cells, shape_at}
 use Rattle.rules.specs.Rows.{Row, leaf, inv, bin, add}
 use Rattle.rules.specs.Sets.{Carried, carry}
 use Rattle.rules.specs.SetFile.{leaves, head_at}
-use Rattle.base.specs.Answers.{shape_of}
+use Rattle.base.specs.Answers.{Answer, shape_of}
 use Rattle.base.specs.declared.shape.Shape.{Shape}
 use Rattle.table.specs.declared.Table.{Table}
-use Rattle.rows.specs.Table.{Holds}
+use Rattle.rows.specs.Table.{Stored, Ends}
 use Rattle.sets.specs.Spelt.{set_in, rows_in, Taken}
 
--- An accepted file, with its shape as the code has it and the number of its rows; a slice that can hold them.
-pub record Copied (file : List ℕ) (shape : Shape) (total : ℕ) (rows : List ℕ) : Type 0 where
+-- An accepted file, with its shape as the code has it and the number of its rows; a table in which no row is used.
+pub record Copied (file : List ℕ) (shape : Shape) (total : ℕ) (s : Table) : Type 0 where
   pub taken : Taken file
   pub shaped : shape_of shape ≡ shape_at old file
   pub whole : total ≡ length (set_in file).tab
-  pub room : total ≤ length rows
+  pub empty : s.used ≡ 0
 
 -- R40: two accepted files with one shape, which the code has.
 pub record Pair (first second : List ℕ) (shape : Shape) : Type 0 where
@@ -46,15 +46,20 @@ renumbered first leaves numbers (bin o a b) = bin o (new_number first leaves num
 abbrev pub carried : List ℕ → List ℕ → ℕ → Carried
 carried first second k = carry add (set_in first).tab (set_in first).heads (set_in second).tab (set_in second).heads k
 
--- R34: the state after j operation rows stands for what the rules have carried, and their numbers are noted.
-pub record Carrying (first second : List ℕ) (shape : Shape) (rows : List ℕ) (s : Table) (numbers : List ℕ) (j : ℕ) : Type 0 where
+-- R34: after j operation rows what the rules have carried is stored, and their numbers are noted.
+pub record Carrying (first second : List ℕ) (shape : Shape) (s : Table) (numbers : List ℕ) (j : ℕ) : Type 0 where
   pub pair : Pair first second shape
   pub low : j ≤ rows_in second
   pub long : rows_in second ≤ length numbers
   pub few : length (carried first second (leaves (shape_of shape) + j)).tab ≤ length (set_in first).tab + j
-  pub holds : Holds rows s (carried first second (leaves (shape_of shape) + j)).tab
-  pub noted : s.refused ≡ false → (i : ℕ) → i < j
+  pub stored : Stored s (carried first second (leaves (shape_of shape) + j)).tab
+  pub noted : (i : ℕ) → i < j
       → get_or numbers i 0 ≡ get_or (carried first second (leaves (shape_of shape) + j)).new (leaves (shape_of shape) + i) 0
+
+-- R34, R54: carrying up to row j, or no row is left for it.
+abbrev pub Carries : List ℕ → List ℕ → Shape → Table → Answer (Unit {0}) → Table → List ℕ → ℕ → Type 0
+Carries first second shape s r s' numbers' j = Ends s r (carried first second (leaves (shape_of shape) + j)).tab
+    (λ _. Carrying first second shape s' numbers' j)
 
 -- The heads of the second set can be renumbered into so many numbers.
 pub record Moving (first second : List ℕ) (shape : Shape) (numbers : List ℕ) (n : ℕ) : Type 0 where

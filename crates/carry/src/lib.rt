@@ -6,30 +6,30 @@ ghost use Rattle.rules.specs.SetFile.{leaves};
 ghost use Rattle.base.specs.Answers.{shape_of};
 ghost use Rattle.laws.specs.Canonical.{Operands};
 ghost use Rattle.rows.specs.Entries.{node_row};
-ghost use Rattle.rows.specs.Table.{Filled};
+ghost use Rattle.table.specs.Append.{Kept};
+ghost use Rattle.rows.specs.Table.{Holds};
 ghost use Rattle.sets.specs.Spelt.{set_in, rows_in};
-ghost use Rattle.carry.specs.Carrying.{Copied, Known, new_number, renumbered, Carrying, Moving, new_heads};
+ghost use Rattle.carry.specs.Carrying.{Copied, Known, new_number, renumbered, Carrying, Carries, Moving, new_heads};
 
 use base::bytes::word;
 use base::kinds::{Cell, Row};
+use base::refusal::Refusal;
 use base::shape::Shape;
 use rows::adding::add;
 use rows::node::{Node, entry_of};
 use sets::read::{head_in, row_in};
-use table::{Table, append_to};
+use table::Table;
 
-// The rows of a set file, appended one after another.
-pub fn copy_rows(file: &[u8], shape: Shape, total: usize, rows: &mut [u64]) -> Table
-    requires { Copied file.now shape total rows.old }
-    ensures { Filled rows.new result total (set_in file.now).tab }
+// The rows of a set file, appended to an empty table one after another.
+pub fn copy_rows(file: &[u8], shape: Shape, total: usize, table: &mut Table) -> Result<(), Refusal>
+    requires { Copied file.now shape total table.old }
+    ensures kept { Kept table.old table.new }
+    ensures holds { Holds table.old result table.new (set_in file.now).tab }
 {
-    let mut table = Table::EMPTY;
-    let mut i = 0;
-    while i < total {
-        table = append_to(rows, table, entry_of(row_in(file, shape, Row(i as u16))));
-        i += 1;
+    for i in 0..total {
+        table.append(entry_of(row_in(file, shape, Row(i as u16))))?;
     }
-    table
+    Ok(())
 }
 
 // R34: the number that row i of the second set gets: a constant its own, a cell the first set's head, an operation what was noted.
@@ -70,18 +70,18 @@ fn carry_row(
     second: &[u8],
     shape: Shape,
     j: usize,
-    rows: &mut [u64],
-    table: Table,
+    table: &mut Table,
     numbers: &mut [u16],
-) -> Table
-    requires { Carrying first.now second.now shape rows.old table numbers.old j × (j < rows_in second.now) }
-    ensures { Carrying first.now second.now shape rows.new result numbers.new (j + 1) }
+) -> Result<(), Refusal>
+    requires { Carrying first.now second.now shape table.old numbers.old j × (j < rows_in second.now) }
+    ensures kept { Kept table.old table.new }
+    ensures carries { Carries first.now second.now shape table.old result table.new numbers.new (j + 1) }
 {
     let at = 2 + shape.cells() + j;
     let node = row_in(second, shape, Row(at as u16));
-    let added = add(rows, table, renumber(first, shape, numbers, node));
-    numbers[j] = added.row.0;
-    added.table
+    let row = add(table, renumber(first, shape, numbers, node))?;
+    numbers[j] = row.0;
+    Ok(())
 }
 
 // R34: rewrites all operation rows of the second set, lowest first.
@@ -89,22 +89,18 @@ pub fn carry_rows(
     first: &[u8],
     second: &[u8],
     shape: Shape,
-    rows: &mut [u64],
-    start: Table,
+    table: &mut Table,
     numbers: &mut [u16],
-) -> Table
-    requires { Carrying first.now second.now shape rows.old start numbers.old 0 }
-    ensures { Carrying first.now second.now shape rows.new result numbers.new
-        (rows_in second.now) }
+) -> Result<(), Refusal>
+    requires { Carrying first.now second.now shape table.old numbers.old 0 }
+    ensures kept { Kept table.old table.new }
+    ensures carries { Carries first.now second.now shape table.old result table.new numbers.new (rows_in second.now) }
 {
     let count = word(second, 5);
-    let mut table = start;
-    let mut j = 0;
-    while j < count {
-        table = carry_row(first, second, shape, j, rows, table, numbers);
-        j += 1;
+    for j in 0..count {
+        carry_row(first, second, shape, j, table, numbers)?;
     }
-    table
+    Ok(())
 }
 
 // R34: the heads of the second set, renumbered.
@@ -112,10 +108,8 @@ pub fn move_heads(first: &[u8], second: &[u8], shape: Shape, numbers: &[u16], he
     requires { Moving first.now second.now shape numbers.now (length heads.old) }
     ensures { heads.new ≡ new_heads first.now second.now shape numbers.now }
 {
-    let mut c = 0;
-    while c < heads.len() {
+    for (c, x) in heads.iter_mut().enumerate() {
         let head = number_of(first, shape, numbers, head_in(second, Cell(c as u16)));
-        heads[c] = head.0;
-        c += 1;
+        *x = head.0;
     }
 }

@@ -5,20 +5,23 @@ mod answer;
 mod new_set;
 mod one_file;
 
-use crate::answer::run_case;
+use crate::answer::{answer_case, read_operation};
+use harness::read::Stop;
 use std::io;
 use std::io::{Read, Write};
 
-// Nothing says that the input ends, and a proved loop does: the turns are counted down from a number that no run uses up.
+// Nothing says that the input ends, and a proved loop does: no run uses up so many turns.
 fn run_cases(
     from: &mut impl Read,
     to: &mut impl Write,
     file: &mut [u8; 400000],
     cells: &mut [u8; 4096],
-) -> io::Result<()> {
-    let mut turns = u64::MAX;
-    while turns > 0 && run_case(from, to, file, cells)? {
-        turns -= 1;
+) -> Result<(), Stop> {
+    for _ in 0..u64::MAX {
+        let Some(operation) = read_operation(from)? else {
+            break;
+        };
+        answer_case(from, to, operation, file, cells)?;
     }
     Ok(())
 }
@@ -29,5 +32,9 @@ fn main(rt: HostRuntime) -> io::Result<()> {
     let mut cells = [0u8; 4096];
     let mut from = rt.stdin();
     let mut to = rt.stdout();
-    run_cases(&mut from, &mut to, &mut file, &mut cells)
+    match run_cases(&mut from, &mut to, &mut file, &mut cells) {
+        Err(Stop::Cut) => writeln!(to, "cut"),
+        Err(Stop::Failed(e)) => Err(e),
+        Ok(()) => Ok(()),
+    }
 }

@@ -1,5 +1,6 @@
 -- Laws of choosing: a chain of four additions, one cell, and one cell more a turn.
-use Rattle.std.specs.Prelude.{ℕ, suc, ◌+◌, ◌≤◌, ◌<◌, ◌≡◌, refl, Bool, true, length, get_or, set}
+use Rattle.std.specs.Prelude.{Ok, Err}
+use Rattle.std.specs.Prelude.{ℕ, zero, suc, ◌+◌, ◌≤◌, ◌<◌, ◌≡◌, refl, Bool, true, length, get_or, set}
 use Rattle.std.proofs.Common.{ap, sym, ◌∙◌, arith, add-one, take-suc, drop-cons, length-take-le, eq-eqb, ne_eqb}
 use Rattle.std.proofs.Math.Bool.{false}
 use mathlib.Core.List.{List, [], ◌∷◌, ◌++◌, append-nil, zip}
@@ -14,19 +15,22 @@ use Rattle.laws.specs.Rows.{meaning}
 use Rattle.laws.specs.Rule.{Ready, Sound, add_sound}
 use Rattle.laws.specs.Grow.{Grown, ext_length, add_extends, grown_ext}
 use Rattle.laws.specs.After.{over}
-use Rattle.laws.specs.Choice.{each_more, each-count, each-grown, choose-grown, choose_sound, choice-grown, length-zip, zip-at}
+use Rattle.laws.specs.Choice.{each_more, each-count, each-grown, choose-grown, choose_sound, length-zip, zip-at}
+use Rattle.base.specs.Answers.{Answer}
 use Rattle.base.specs.declared.kinds.Row as K
 use Rattle.table.specs.declared.Table.{Table}
-use Rattle.rows.specs.Table.{Holds, Addable, Adds, Gives}
+use Rattle.base.specs.declared.refusal.Refusal.{Refusal}
+use Rattle.table.specs.Append.{Kept}
+use Rattle.rows.specs.Table.{Stored, Exceeds, Addable, Adds, Gives}
+use Rattle.rows.specs.Stored.{exceeds-more, ends-before, kept_refl}
 use Rattle.rows.specs.Adding.{holds-add}
-use Rattle.rows.specs.Making.{Drawn, addable, add-still, open_before, over-more, drawn-over}
+use Rattle.rows.specs.Making.{Drawn, addable}
 use Rattle.rows.specs.declared.node.Node.TheVariants.{Not, Two}
-use Rattle.rows.specs.declared.adding.Added.{Added}
-use Rattle.choice.specs.Choosing.{Among, Choosable, Picks, Choosing, Chooses}
+use Rattle.choice.specs.Choosing.{Among, Choosable, Picks, Choosing}
 
 -- ---- four operations
 
-module _ {C : ℕ} {t : List Row} {rows : List ℕ} {s : Table} (f x y : K.Row) (g : Among C t rows s f.0 x.0 y.0) where
+module _ {C : ℕ} {t : List Row} {s : Table} (f x y : K.Row) (g : Among C t s f.0 x.0 y.0) where
   -- R35: NOT f, the half for x and the half for y, as the rules add them.
   abbrev N : R.Added
   N = add t (inv f.0)
@@ -37,9 +41,12 @@ module _ {C : ℕ} {t : List Row} {rows : List ℕ} {s : Table} (f x y : K.Row) 
   abbrev B : R.Added
   B = add A.tab (bin true N.row y.0)
 
+  abbrev all : List Row
+  all = (four_rows t f.0 x.0 y.0).tab
+
   -- What each of the four additions needs, and what it gives.
-  pub not-addable : s.refused ≡ false → Addable rows s.used (inv f.0)
-  not-addable e = addable g.holds e (inv f.0) g.low.0
+  pub not-addable : Addable s (inv f.0)
+  not-addable = addable g.stored (inv f.0) g.low.0
 
   sound_n : Sound C N (λ z. meaning t z (inv f.0))
   sound_n = add_sound g.canonical (inv f.0) g.low.0
@@ -66,67 +73,77 @@ module _ {C : ℕ} {t : List Row} {rows : List ℕ} {s : Table} (f x y : K.Row) 
       let m = ext_length (add_extends A.tab (bin true N.row y.0)) in
       (omega (arith, sound_a.low), sound_b.low)
 
-  module _ {n : Added} {one : List ℕ} (an : Adds rows s (Not f) n one) (size-n : length one ≡ length rows) where
-    gives_n : Gives one n N
-    gives_n = holds-add g.canonical g.holds an size-n (inv f.0) g.low.0 (λ _. refl)
+  -- Each table is one of the last, which is longer.
+  all_b : length B.tab ≤ length all
+  unfolding four_rows
+  all_b = ext_length (add_extends B.tab (bin false A.row B.row))
 
-    pub and-addable : n.table.refused ≡ false → Addable one n.table.used (bin true f.0 x.0)
-    and-addable e = addable gives_n.holds e (bin true f.0 x.0) ready_a
+  all_a : length A.tab ≤ length all
+  unfolding four_rows
+  all_a = omega (arith, ext_length (add_extends A.tab (bin true N.row y.0)), all_b)
 
-    module _ {a : Added} {two : List ℕ} (aa : Adds one n.table (Two true f x) a two) (size-a : length two ≡ length one) where
-      gives_a : Gives two a A
-      gives_a = holds-add sound_n.canonical gives_n.holds aa size-a (bin true f.0 x.0) ready_a (λ _. refl)
+  all_n : length N.tab ≤ length all
+  unfolding four_rows
+  all_n = omega (arith, ext_length (add_extends N.tab (bin true f.0 x.0)), all_a)
+
+  pub over_n : {e : Refusal} (s' : Table) → Adds s (Not f) (Err e) s' → Exceeds s e all
+  over_n s' an = exceeds-more (kept_refl s) (an.gives C t g.canonical g.stored g.low.0) all_n
+
+  module _ {n : K.Row} {s₁ : Table} (an : Adds s (Not f) (Ok n) s₁) where
+    gives_n : Gives s (Ok n) s₁ N
+    gives_n = an.gives C t g.canonical g.stored g.low.0
+
+    pub and-addable : Addable s₁ (bin true f.0 x.0)
+    and-addable = addable gives_n.0 (bin true f.0 x.0) ready_a
+
+    pub over_a : {e : Refusal} (s' : Table) → Kept s s₁ → Adds s₁ (Two true f x) (Err e) s' → Exceeds s e all
+    over_a s' k aa = exceeds-more k (aa.gives C N.tab sound_n.canonical gives_n.0 ready_a) all_a
+
+    module _ {a : K.Row} {s₂ : Table} (aa : Adds s₁ (Two true f x) (Ok a) s₂) where
+      gives_a : Gives s₁ (Ok a) s₂ A
+      gives_a = aa.gives C N.tab sound_n.canonical gives_n.0 ready_a
 
       -- NOT f as the code has it.
-      row_b : a.table.refused ≡ false → bin true n.row.0 y.0 ≡ bin true N.row y.0
-      row_b e = ap (λ k. bin true k y.0) (gives_n.row (open_before (add-still aa) e))
+      row_b : bin true n.0 y.0 ≡ bin true N.row y.0
+      row_b = ap (λ k. bin true k y.0) gives_n.1
 
-      pub other_addable : a.table.refused ≡ false → Addable two a.table.used (bin true n.row.0 y.0)
-      other_addable e = rw (row_b e) (addable gives_a.holds e (bin true N.row y.0) ready_b)
+      pub other_addable : Addable s₂ (bin true n.0 y.0)
+      other_addable = rw row_b (addable gives_a.0 (bin true N.row y.0) ready_b)
 
-      module _ {b : Added} {three : List ℕ} (ab : Adds two a.table (Two true n.row y) b three)
-          (size-b : length three ≡ length two) where
-        gives_b : Gives three b B
-        gives_b = holds-add sound_a.canonical gives_a.holds ab size-b (bin true N.row y.0) ready_b row_b
+      adds_b : (r : Answer K.Row) (s' : Table) → Adds s₂ (Two true n y) r s' → Gives s₂ r s' B
+      adds_b r s' ab = holds-add sound_a.canonical gives_a.0 ab (bin true N.row y.0) ready_b row_b
+
+      pub over_b : {e : Refusal} (s' : Table) → Kept s s₂ → Adds s₂ (Two true n y) (Err e) s' → Exceeds s e all
+      over_b s' k ab = exceeds-more k (adds_b (Err _) s' ab) all_b
+
+      module _ {b : K.Row} {s₃ : Table} (ab : Adds s₂ (Two true n y) (Ok b) s₃) where
+        gives_b : Gives s₂ (Ok b) s₃ B
+        gives_b = adds_b (Ok b) s₃ ab
 
         -- Both halves as the code has them.
-        row_o : {o : Bool} → b.table.refused ≡ false → bin o a.row.0 b.row.0 ≡ bin o A.row B.row
-        row_o e = rw (gives_a.row (open_before (add-still ab) e), gives_b.row e) refl
+        row_o : {o : Bool} → bin o a.0 b.0 ≡ bin o A.row B.row
+        row_o = rw (gives_a.1, gives_b.1) refl
 
-        pub halves_addable : {o : Bool} → b.table.refused ≡ false → Addable three b.table.used (bin o a.row.0 b.row.0)
-        halves_addable {o} e = rw (row_o {o = o} e) (addable gives_b.holds e (bin o A.row B.row) ready_o)
+        pub halves_addable : {o : Bool} → Addable s₃ (bin o a.0 b.0)
+        halves_addable {o} = rw (row_o {o = o}) (addable gives_b.0 (bin o A.row B.row) ready_o)
 
-        pub four_gives : {r : Added} {after : List ℕ} → Adds three b.table (Two false a.row b.row) r after
-            → length after ≡ length three → Gives after r (four_rows t f.0 x.0 y.0)
+        pub four_gives : (r : Answer K.Row) (s' : Table) → Kept s s₃ → Adds s₃ (Two false a b) r s'
+            → Gives s r s' (four_rows t f.0 x.0 y.0)
         unfolding four_rows
-        four_gives ar size = holds-add sound_b.canonical gives_b.holds ar size (bin false A.row B.row) ready_o row_o
-
--- The four additions as the code makes them are those of the rules.
-pub four_picks : {rows one two three after : List ℕ} {s : Table} {n a b r : Added} (f x y : K.Row) → Adds rows s (Not f) n one
-    → length one ≡ length rows → Adds one n.table (Two true f x) a two → length two ≡ length one
-    → Adds two a.table (Two true n.row y) b three → length three ≡ length two
-    → Adds three b.table (Two false a.row b.row) r after → length after ≡ length three
-    → Picks four_rows rows s f.0 x.0 y.0 r after
-four_picks f x y an sn aa sa ab sb ar sr = record {
-  still = λ q. add-still ar (add-still ab (add-still aa (add-still an q)));
-  gives = λ _ C t g. four_gives f x y g an sn aa sa ab sb ar sr;
-}
+        four_gives r s' k ar = ends-before (add B.tab (bin false A.row B.row)).tab _ k r (holds-add sound_b.canonical gives_b.0 ar (bin false A.row B.row) ready_o row_o)
 
 -- ---- one cell
 
-module _ {rows : List ℕ} {s : Table} {f x y : ℕ} {r : Added} where
+module _ {s : Table} {f x y : ℕ} where
   -- Equal heads are kept.
-  pub choose_keeps : x ≡ y → r.row.0 ≡ x → r.table ≡ s → Picks choose rows s f x y r rows
+  pub choose_keeps : (r : K.Row) → x ≡ y → r.0 ≡ x → Picks choose s f x y (Ok r) s
   unfolding choose
-  choose_keeps e v q = record {
-    still = λ z. rw q z;
-    gives = λ _ C t g. rw (eq-eqb x y e) (record { holds = rw q g.holds; row = λ _. v });
-  }
+  choose_keeps r e v = record { gives = λ C t g. rw (eq-eqb x y e) (g.stored, v) }
 
   -- Else the four operations give the head.
-  pub choose-makes : {after : List ℕ} → (x ≡ y → ⊥) → Picks four_rows rows s f x y r after → Picks choose rows s f x y r after
+  pub choose-makes : {r : Answer K.Row} {s' : Table} → (x ≡ y → ⊥) → Picks four_rows s f x y r s' → Picks choose s f x y r s'
   unfolding choose
-  choose-makes e p = record { still = p.still; gives = λ z C t g. rw (ne_eqb x y e) (p.gives z C t g) }
+  choose-makes e p = record { gives = λ C t g. rw (ne_eqb x y e) (p.gives C t g) }
 
 -- ---- one cell more a turn
 
@@ -134,13 +151,13 @@ module _ {rows : List ℕ} {s : Table} {f x y : ℕ} {r : Added} where
 abbrev pub part : ℕ → List ℕ → Heads → ℕ → Heads
 part f y X c = each (λ u p. choose u f p.0 p.1) X.tab (take c (zip X.heads y))
 
--- After c turns the state stands for the choice for the first c cells; unless it is refused, `made` has its heads, then those of X.
-pub record Chosen (C f : ℕ) (y : List ℕ) (X : Heads) (rows : List ℕ) (s : Table) (made : List ℕ) (c : ℕ) : Type 0 where
+-- After c turns the state stands for the choice for the first c cells, and `made` has its heads, then those of X.
+pub record Chosen (C f : ℕ) (y : List ℕ) (X : Heads) (s : Table) (made : List ℕ) (c : ℕ) : Type 0 where
   pub canonical : Canonical C (part f y X c).tab
-  pub holds : Holds rows s (part f y X c).tab
-  pub heads : s.refused ≡ false → made ≡ (part f y X c).heads ++ drop c X.heads
+  pub stored : Stored s (part f y X c).tab
+  pub heads : made ≡ (part f y X c).heads ++ drop c X.heads
 
-module _ {C f : ℕ} {y before : List ℕ} {start : Table} {was : List ℕ} (w : Choosing C f y before start was) where
+module _ {C f : ℕ} {y : List ℕ} {s₀ : Table} {was : List ℕ} (w : Choosing C f y s₀ was) where
   abbrev X : Heads
   X = w.first
 
@@ -160,11 +177,17 @@ module _ {C f : ℕ} {y before : List ℕ} {start : Table} {was : List ℕ} (w :
   pairs = length-zip X.heads y paired ∙ w.stands.count
 
   -- Before any cell.
-  pub chosen_none : Chosen C f y X before start was 0
+  pub chosen_none : Chosen C f y X s₀ was 0
   unfolding each
-  chosen_none = record { canonical = w.stands.canonical; holds = w.drawn.holds; heads = w.drawn.same }
+  chosen_none = record { canonical = w.stands.canonical; stored = w.drawn.stored; heads = w.drawn.same }
 
-  -- The table before any cell is kept.
+  -- The tables grow from cell to cell.
+  part-low : (u : List Row) (ps : List (ℕ × ℕ)) (c : ℕ) → length (each put u (take c ps)).tab ≤ length (each put u ps).tab
+  unfolding each
+  part-low u ps zero = ext_length (grown_ext (each-grown put grows u ps))
+  part-low u [] (suc c) = omega arith
+  part-low u (p ∷ ps) (suc c) = part-low (put u p).tab ps c
+
   longer : (c : ℕ) → length X.tab ≤ length (P c).tab
   longer c = ext_length (grown_ext (each-grown put grows X.tab (take c (zip X.heads y))))
 
@@ -193,61 +216,50 @@ module _ {C f : ℕ} {y before : List ℕ} {start : Table} {was : List ℕ} (w :
         let m = longer c in
         (omega (arith, w.low), omega (arith, w.stands.low c), omega (arith, w.second.low c))
 
-    module _ {rows : List ℕ} {s : Table} {made : List ℕ} (g : Chosen C f y X rows s made c) where
+    module _ {s : Table} {made : List ℕ} (g : Chosen C f y X s made c) where
       -- Up to the turn for cell c, its place has the head of X.
-      split : s.refused ≡ false → made ≡ (P c).heads ++ hx ∷ drop (suc c) X.heads
-      split e = g.heads e ∙ ap (λ l. (P c).heads ++ l) (drop-cons X.heads c 0 (omega (arith, w.stands.count)))
+      split : made ≡ (P c).heads ++ hx ∷ drop (suc c) X.heads
+      split = g.heads ∙ ap (λ l. (P c).heads ++ l) (drop-cons X.heads c 0 (omega (arith, w.stands.count)))
 
-      head-is : s.refused ≡ false → get_or made c 0 ≡ hx
-      head-is e = ap (λ l. get_or l c 0) (split e) ∙ get_or_at (P c).heads hx (drop (suc c) X.heads) 0 c size
+      head-is : get_or made c 0 ≡ hx
+      head-is = ap (λ l. get_or l c 0) split ∙ get_or_at (P c).heads hx (drop (suc c) X.heads) 0 c size
 
-      among : s.refused ≡ false → Among C (P c).tab rows s f (get_or made c 0) hy
-      among e = rw (head-is e) (record { canonical = g.canonical; holds = g.holds; low = low })
+      among : Among C (P c).tab s f (get_or made c 0) hy
+      among = rw head-is (record { canonical = g.canonical; stored = g.stored; low = low })
 
-      pub chosen_needs : s.refused ≡ false → Choosable rows s f (get_or made c 0) hy
-      chosen_needs e = record { cells = C; table = (P c).tab; among = among e }
+      pub chosen_needs : Choosable s f (get_or made c 0) hy
+      chosen_needs = record { cells = C; table = (P c).tab; among = among }
 
-      module _ {r : Added} {after : List ℕ} (p : Picks choose rows s f (get_or made c 0) hy r after) (kept : length after ≡ length rows) where
-        gives : s.refused ≡ false → Gives after r Q
-        gives e = rw (head-is e) at (p.gives e C (P c).tab (among e))
+      gives : (r : Answer K.Row) (s' : Table) → Picks choose s f (get_or made c 0) hy r s' → Gives s r s' Q
+      gives r s' p = rw head-is at (p.gives C (P c).tab among)
 
-        stays : (b : Bool) → s.refused ≡ b → Holds after r.table Q.tab
-        stays true e = over-more g.holds e (p.still e) kept (ext_length (grown_ext (choose-grown (P c).tab f hx hy)))
-        stays false e = (gives e).holds
+      -- No row is left for cell c.
+      pub chosen_over : {e : Refusal} {s' : Table} → Kept s₀ s → Picks choose s f (get_or made c 0) hy (Err e) s'
+          → Exceeds s₀ e (choice X.tab f X.heads y).tab
+      unfolding choice
+      chosen_over {e} {s'} k p =
+          let o : Exceeds s e (P (suc c)).tab = rw step (gives (Err e) s' p) in
+          exceeds-more k o (part-low X.tab (zip X.heads y) (suc c))
 
-        -- The head is put in place c.
-        stored : r.table.refused ≡ false
-            → set made c r.row.0 ≡ ((P c).heads ++ (Q.row ∷ [])) ++ drop (suc c) X.heads
-        stored q =
-            let e = open_before p.still q in
-            ap (λ l. set l c r.row.0) (split e) ∙ set_at (P c).heads hx (drop (suc c) X.heads) r.row.0 c size
-            ∙ ap (λ k. (P c).heads ++ k ∷ drop (suc c) X.heads) ((gives e).row q)
-            ∙ sym (append_snoc (P c).heads Q.row (drop (suc c) X.heads))
-
-        -- R35: after the turn for cell c.
-        pub chosen_more : Chosen C f y X after r.table (set made c r.row.0) (c + 1)
-        chosen_more =
-            rw add-one (record {
-              canonical = rw step (choose_sound g.canonical f hx hy low.0 low.1 low.2).canonical;
-              holds = rw step (stays s.refused refl);
-              heads = rw step stored;
-            })
+      -- R35: after the turn for cell c, whose head is put in its place.
+      pub chosen_more : {r : K.Row} {s' : Table} → Picks choose s f (get_or made c 0) hy (Ok r) s'
+          → Chosen C f y X s' (set made c r.0) (c + 1)
+      chosen_more {r} {s'} p =
+          let stored : set made c r.0 ≡ ((P c).heads ++ (Q.row ∷ [])) ++ drop (suc c) X.heads =
+          ap (λ l. set l c r.0) split ∙ set_at (P c).heads hx (drop (suc c) X.heads) r.0 c size
+          ∙ ap (λ k. (P c).heads ++ k ∷ drop (suc c) X.heads) (gives (Ok r) s' p).1
+          ∙ sym (append_snoc (P c).heads Q.row (drop (suc c) X.heads)) in
+          rw add-one (record {
+            canonical = rw step (choose_sound g.canonical f hx hy low.0 low.1 low.2).canonical;
+            stored = rw step (gives (Ok r) s' p).0;
+            heads = rw step stored;
+          })
 
   -- All cells: the choice.
-  pub chosen_all : {rows : List ℕ} {s : Table} {made : List ℕ} (c : ℕ) → Chosen C f y X rows s made c → C ≤ c
-      → Drawn rows s made (choice X.tab f X.heads y)
+  pub chosen_all : {s : Table} {made : List ℕ} (c : ℕ) → Chosen C f y X s made c → C ≤ c
+      → Drawn s made (choice X.tab f X.heads y)
   unfolding choice
   chosen_all c g e =
       let whole : take c (zip X.heads y) ≡ zip X.heads y = take_all c (zip X.heads y) (omega (arith, pairs)) in
       let none : drop c X.heads ≡ [] = drop_of_length-le X.heads {i = c} (omega (arith, w.stands.count)) in
-      record { holds = rw whole at g.holds; same = λ f. rw (whole, none, append-nil) at (g.heads f) }
-
-  -- A table that is refused from the start.
-  pub chosen_refused : start.refused ≡ true → Drawn before start was (choice X.tab f X.heads y)
-  chosen_refused e = drawn-over w.drawn.holds e (ext_length (grown_ext (choice-grown X.tab f X.heads y)))
-
--- What holds of all heads that the start stands for.
-pub chooses_each : {C f : ℕ} {y rows : List ℕ} {s : Table} {made rows' : List ℕ} {s' : Table} {made' : List ℕ} → length made ≡ C
-    → ((w : Choosing C f y rows s made) → Drawn rows' s' made' (choice w.first.tab f w.first.heads y))
-    → Chooses C f y rows s made rows' s' made'
-chooses_each e h X d a b l = h (record { first = X; drawn = d; stands = a; second = b; low = l; count = e })
+      record { stored = rw whole at g.stored; same = rw (whole, none, append-nil) at g.heads }

@@ -1,59 +1,50 @@
 // Choice by a row between two sets over one table (R35).
 #![tactic(auto)]
 
-ghost use Rattle.std.specs.Prelude.{◌≡◌, false, length};
+ghost use Rattle.std.specs.Prelude.{◌≡◌, length};
 ghost use Rattle.rules.specs.Sets as S;
+ghost use Rattle.table.specs.Append.{Kept};
 ghost use Rattle.choice.specs.Choosing.{Choosable, Picks, Choosing, Chooses};
 
 use base::kinds::Row;
-use rows::adding::{Added, add};
+use base::refusal::Refusal;
+use rows::adding::add;
 use rows::node::Node;
 use table::Table;
 
 // R35: four operations that give x if row f is 1, else y.
-fn four_rows(rows: &mut [u64], table: Table, f: Row, x: Row, y: Row) -> Added
-    requires { table.refused ≡ false → Choosable rows.old table f.0 x.0 y.0 }
-    ensures { Picks S.four_rows rows.old table f.0 x.0 y.0 result rows.new }
+fn four_rows(table: &mut Table, f: Row, x: Row, y: Row) -> Result<Row, Refusal>
+    requires { Choosable table.old f.0 x.0 y.0 }
+    ensures kept { Kept table.old table.new }
+    ensures picks { Picks S.four_rows table.old f.0 x.0 y.0 result table.new }
 {
-    let n = add(rows, table, Node::Not(f));
-    let not_f = n.row;
-    let a = add(rows, n.table, Node::Two(true, f, x));
-    let left = a.row;
-    let b = add(rows, a.table, Node::Two(true, not_f, y));
-    let right = b.row;
-    add(rows, b.table, Node::Two(false, left, right))
+    let not_f = add(table, Node::Not(f))?;
+    let left = add(table, Node::Two(true, f, x))?;
+    let right = add(table, Node::Two(true, not_f, y))?;
+    add(table, Node::Two(false, left, right))
 }
 
 // R35: one cell's choice by row f of the heads x and y: equal heads are kept.
-fn choose(rows: &mut [u64], table: Table, f: Row, x: Row, y: Row) -> Added
-    requires { table.refused ≡ false → Choosable rows.old table f.0 x.0 y.0 }
-    ensures { Picks S.choose rows.old table f.0 x.0 y.0 result rows.new }
+fn choose(table: &mut Table, f: Row, x: Row, y: Row) -> Result<Row, Refusal>
+    requires { Choosable table.old f.0 x.0 y.0 }
+    ensures kept { Kept table.old table.new }
+    ensures picks { Picks S.choose table.old f.0 x.0 y.0 result table.new }
 {
-    if x.0 == y.0 {
-        return Added {
-            row: x,
-            table: table,
-        };
+    if x == y {
+        return Ok(x);
     }
-    four_rows(rows, table, f, x, y)
+    four_rows(table, f, x, y)
 }
 
-// R35: the choice by row f of the sets with heads `made` and y, over one table, cells in order. A table that is refused stays as it is.
-pub fn choose_heads(f: Row, y: &[u16], rows: &mut [u64], start: Table, made: &mut [u16]) -> Table
-    requires { Choosing (length made.old) f.0 y.now rows.old start made.old }
-    ensures { Chooses (length made.old) f.0 y.now rows.old start made.old
-        rows.new result made.new }
+// R35: the choice by row f of the sets with heads `made` and y, over one table, cells in order.
+pub fn choose_heads(f: Row, y: &[u16], table: &mut Table, made: &mut [u16]) -> Result<(), Refusal>
+    requires { Choosing (length made.old) f.0 y.now table.old made.old }
+    ensures kept { Kept table.old table.new }
+    ensures chooses { Chooses (length made.old) f.0 y.now table.old made.old result table.new made.new }
 {
-    if start.refused {
-        return start;
+    for (c, x) in made.iter_mut().enumerate() {
+        let head = choose(table, f, Row(*x), Row(y[c]))?;
+        *x = head.0;
     }
-    let mut table = start;
-    let mut c = 0;
-    while c < made.len() {
-        let head = choose(rows, table, f, Row(made[c]), Row(y[c]));
-        made[c] = head.row.0;
-        table = head.table;
-        c += 1;
-    }
-    table
+    Ok(())
 }

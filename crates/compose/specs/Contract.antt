@@ -1,5 +1,5 @@
 -- What composing answers, in the words of the rules, what it leaves in the output, and that there is one answer only.
-use Rattle.std.specs.Prelude.{ℕ, ◌+◌, ◌≤◌, ◌≡◌, refl, List, length}
+use Rattle.std.specs.Prelude.{ℕ, ◌+◌, ◌≤◌, ◌≡◌, Result, Ok, Err, refl, List, length}
 use Rattle.std.proofs.Common.{ap, ap₂, sym, ◌∙◌}
 use Rattle.rules.specs.Verdict.{Verdict, granted, refused}
 use Rattle.rules.specs.Edition.{old}
@@ -10,27 +10,31 @@ use Rattle.base.specs.declared.shape.Shape.{Shape}
 use Rattle.table.specs.declared.Table.{Table}
 use Rattle.writer.specs.Writes.{length_of}
 use Rattle.sets.specs.Spelt.{set_in, rows_in}
-use Rattle.compose.specs.declared.Composed.{Composed}
-use Rattle.compose.specs.declared.Composed.TheVariants.{Length, First, Second, Refused}
+use Rattle.compose.specs.declared.Blame.{Blame}
+use Rattle.compose.specs.declared.Blame.TheVariants.{First, Second, Neither}
 use Rattle.carry.specs.Carrying.{Pair, Carrying}
 
 -- R51: the answer of the rules where so many rows and numbers, and that output, are lent.
 abbrev pub answer : List ℕ → List ℕ → ℕ → ℕ → List ℕ → Verdict (List ℕ)
 answer first second rows numbers out = compose old first second rows numbers (length out)
 
+-- What composing answers: how many bytes were written, or a refusal and which file it is about.
+abbrev pub Composed : Type 0
+Composed = Result ℕ Blame
+
 -- R46, R59: how many bytes were written, or the refusal.
 abbrev pub composed_verdict : Composed → Verdict ℕ
-composed_verdict (Length n) = granted n
-composed_verdict (First x) = refused_by x
-composed_verdict (Second x) = refused_by x
-composed_verdict (Refused x) = refused_by x
+composed_verdict (Ok n) = granted n
+composed_verdict (Err (First x)) = refused_by x
+composed_verdict (Err (Second x)) = refused_by x
+composed_verdict (Err (Neither x)) = refused_by x
 
 -- R51: which file it is about.
 abbrev pub blames : Composed → Blamed
-blames (Length n) = neither
-blames (First x) = firstFile
-blames (Second x) = secondFile
-blames (Refused x) = neither
+blames (Ok n) = neither
+blames (Err (First x)) = firstFile
+blames (Err (Second x)) = secondFile
+blames (Err (Neither x)) = neither
 
 -- R40, R51, R52: the answer is that of the rules, and so is the file that it is about, and what the lent output holds after the call.
 pub record Composes (first second : List ℕ) (rows numbers : ℕ) (r : Composed) (before after : List ℕ) : Type 0 where
@@ -50,23 +54,23 @@ pub record Pairs (first second : List ℕ) (shape : Shape) (total rows numbers :
   pub ready : Ready first second rows numbers
 
 -- All rows of the second set have been carried.
-pub record Finished (first second : List ℕ) (shape : Shape) (rows : List ℕ) (s : Table) (numbers : List ℕ) : Type 0 where
-  pub carrying : Carrying first second shape rows s numbers (rows_in second)
-  pub ready : Ready first second (length rows) (length numbers)
+pub record Finished (first second : List ℕ) (shape : Shape) (s : Table) (numbers : List ℕ) : Type 0 where
+  pub carrying : Carrying first second shape s numbers (rows_in second)
+  pub ready : Ready first second (length s.rows.now) (length numbers)
 
 -- R46, R51, R52: two results that meet the contract are the same, with the same output after.
 answer_of : Verdict ℕ → Blamed → Composed
-answer_of (granted n) b = Length n
-answer_of (refused n p) firstFile = First (refusal_of n p)
-answer_of (refused n p) secondFile = Second (refusal_of n p)
-answer_of (refused n p) neither = Refused (refusal_of n p)
+answer_of (granted n) b = Ok n
+answer_of (refused n p) firstFile = Err (First (refusal_of n p))
+answer_of (refused n p) secondFile = Err (Second (refusal_of n p))
+answer_of (refused n p) neither = Err (Neither (refusal_of n p))
 
 answer_back : (a : Composed) → answer_of (composed_verdict a) (blames a) ≡ a
 unfolding answer_of
-answer_back (Length n) = refl
-answer_back (First x) = ap First (refusal_back x)
-answer_back (Second x) = ap Second (refusal_back x)
-answer_back (Refused x) = ap Refused (refusal_back x)
+answer_back (Ok n) = refl
+answer_back (Err (First x)) = ap (λ y. Err (First y)) (refusal_back x)
+answer_back (Err (Second x)) = ap (λ y. Err (Second y)) (refusal_back x)
+answer_back (Err (Neither x)) = ap (λ y. Err (Neither y)) (refusal_back x)
 
 pub compose_only : (first second : List ℕ) (rows numbers : ℕ) (a b : Composed) (before t u : List ℕ)
     → Composes first second rows numbers a before t → Composes first second rows numbers b before u

@@ -1,5 +1,5 @@
 -- The laws of the unchanging set, of what the code leaves: composed with it, on either side, a file comes out as it went in.
-use Rattle.std.specs.Prelude.{ℕ, ◌≡◌, List, length, take, ltb}
+use Rattle.std.specs.Prelude.{ℕ, ◌≡◌, Ok, List, length, take, ltb}
 use Rattle.rules.specs.Verdict.{granted}
 use Rattle.rules.specs.Edition.{old}
 use Rattle.rules.specs.Shape.{Shape, check_shape}
@@ -9,20 +9,18 @@ use Rattle.laws.specs.Verdict.{bind_granted, check_granted}
 use Rattle.laws.specs.Bytes.{Bytes}
 use Rattle.laws.specs.Files.{old_sensible, unchanging-first, unchanging-second}
 use Rattle.writer.specs.Writes.{Writes, writes_front}
-use Rattle.writer.specs.declared.Written.TheVariants as W
-use Rattle.compose.specs.declared.Composed.TheVariants.{Length}
 use Rattle.compose.specs.Contract.{answer, Composes}
 
 -- R59: what composing leaves at the front of the output is the file that the rules compose.
 pub composed-front : (first second : List ℕ) (rows numbers n : ℕ) (before after : List ℕ)
-    → Composes first second rows numbers (Length n) before after
+    → Composes first second rows numbers (Ok n) before after
     → compose old first second rows numbers (length before) ≡ granted (take n after)
 composed-front first second rows numbers n before after c =
     writes_front (answer first second rows numbers before) n before after (record { answer = c.answers; output = c.output })
 
 -- R58: what writing the unchanging set leaves there is its file.
 still-front : (sh : Shape) (n : ℕ) (before after : List ℕ)
-    → Writes (write_unchanging old sh (length before)) (W.Length n) before after
+    → Writes (write_unchanging old sh (length before)) (Ok n) before after
     → take n after ≡ write_set old (unchanging_set sh)
 unfolding write_unchanging write_into
 still-front sh n before after w =
@@ -34,9 +32,9 @@ still-front sh n before after w =
 
 -- R32, R40: a file that is accepted as a set of the shape sh, and the unchanging set of sh as it was written.
 module _ (file : List ℕ) (b : Bytes file) (z : TransferSet) (r : read_set old file ≡ granted z) (n : ℕ) (blank still : List ℕ)
-    (w : Writes (write_unchanging old z.shape (length blank)) (W.Length n) blank still) where
+    (w : Writes (write_unchanging old z.shape (length blank)) (Ok n) blank still) where
   -- Composed after the unchanging set it gives back its bytes.
-  pub still-first : (rows numbers k : ℕ) (before after : List ℕ) → Composes (take n still) file rows numbers (Length k) before after
+  pub still-first : (rows numbers k : ℕ) (before after : List ℕ) → Composes (take n still) file rows numbers (Ok k) before after
       → take k after ≡ file
   still-first rows numbers k before after c =
       let front = rw (still-front z.shape n blank still w) at
@@ -45,7 +43,7 @@ module _ (file : List ℕ) (b : Bytes file) (z : TransferSet) (r : read_set old 
 
   -- Composed before it, too.
   pub still-second : (rows numbers k : ℕ) (before after : List ℕ)
-      → Composes file (take n still) rows numbers (Length k) before after
+      → Composes file (take n still) rows numbers (Ok k) before after
       → take k after ≡ file
   still-second rows numbers k before after c =
       let front = rw (still-front z.shape n blank still w) at

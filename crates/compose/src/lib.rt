@@ -5,44 +5,19 @@ pub mod pair;
 
 ghost use Rattle.std.specs.Prelude.{◌≡◌, length};
 ghost use Rattle.rules.specs.Operations.{work_after};
-ghost use Rattle.sets.specs.Spelt.{Taken};
 ghost use Rattle.compose.specs.Contract.{Composes};
 
 use crate::pair::compose_accepted;
 use base::refusal::Refusal;
-use base::work::{clear_numbers, clear_rows};
-use program::Checked;
 use sets::check_set;
-use writer::Written;
 
-// How composing ended.
-#[derive(Clone, Copy)]
-pub enum Composed {
-    Length(usize),
-    // The first file is refused.
+// R51: which file a refusal is about.
+#[derive(Clone, Copy, PartialEq, Eq)]
+pub enum Blame {
     First(Refusal),
-    // The second file is refused.
     Second(Refusal),
     // Neither file is at fault.
-    Refused(Refusal),
-}
-
-// Composes two accepted files.
-fn compose_both(
-    first: &[u8],
-    second: &[u8],
-    rows: &mut [u64],
-    numbers: &mut [u16],
-    out: &mut [u8],
-) -> Composed
-    requires { Taken first.now × Taken second.now }
-    ensures { Composes first.now second.now (length rows.old)
-        (length numbers.old) result out.old out.new }
-{
-    match compose_accepted(first, second, rows, numbers, out) {
-        Written::Length(n) => Composed::Length(n),
-        Written::Refused(x) => Composed::Refused(x),
-    }
+    Neither(Refusal),
 }
 
 // R51: the first file is judged, then the second.
@@ -52,17 +27,13 @@ fn compose_checked(
     rows: &mut [u64],
     numbers: &mut [u16],
     out: &mut [u8],
-) -> Composed
+) -> Result<usize, Blame>
     ensures { Composes first.now second.now (length rows.old)
         (length numbers.old) result out.old out.new }
 {
-    match check_set(first) {
-        Checked::Granted => match check_set(second) {
-            Checked::Granted => compose_both(first, second, rows, numbers, out),
-            Checked::Refused(x) => Composed::Second(x),
-        },
-        Checked::Refused(x) => Composed::First(x),
-    }
+    check_set(first).map_err(Blame::First)?;
+    check_set(second).map_err(Blame::Second)?;
+    compose_accepted(first, second, rows, numbers, out).map_err(Blame::Neither)
 }
 
 // R40, R51, R52, R56: composes two set files: the set that evaluates as the first and then the second. The first file is judged
@@ -74,14 +45,14 @@ pub fn compose(
     rows: &mut [u64],
     numbers: &mut [u16],
     out: &mut [u8],
-) -> Composed
+) -> Result<usize, Blame>
     ensures composes { Composes first.now second.now (length rows.old)
         (length numbers.old) result out.old out.new }
     ensures rows_after { rows.new ≡ work_after rows.old }
     ensures numbers_after { numbers.new ≡ work_after numbers.old }
 {
     let r = compose_checked(first, second, rows, numbers, out);
-    clear_rows(rows);
-    clear_numbers(numbers);
+    rows.fill(0);
+    numbers.fill(0);
     r
 }

@@ -13,13 +13,13 @@ use base::shape::Shape;
 use carry::{carry_rows, copy_rows, move_heads};
 use program::header::shape_at;
 use table::Table;
-use writer::{Written, write_finished};
+use writer::write_finished;
 
 // R40: whether two shapes are the same.
 fn same_shape(a: Shape, b: Shape) -> bool
     ensures { result ≡ same_shape (shape_of a) (shape_of b) }
 {
-    a.depth == b.depth && (a.inputs == b.inputs && (a.outputs == b.outputs && a.memory == b.memory))
+    a == b
 }
 
 // R54: writes the composed set: the second set's heads are renumbered first.
@@ -27,19 +27,18 @@ fn write_moved(
     first: &[u8],
     second: &[u8],
     shape: Shape,
-    rows: &[u64],
-    table: Table,
+    table: &Table,
     numbers: &mut [u16],
     heads: &mut [u16],
     out: &mut [u8],
-) -> Written
-    requires { Finished first.now second.now shape rows.now table numbers.old ×
+) -> Result<usize, Refusal>
+    requires { Finished first.now second.now shape table.now numbers.old ×
         (length heads.old ≡ cells (shape_of shape)) }
-    ensures { Writes (answer first.now second.now (length rows.now)
+    ensures { Writes (answer first.now second.now (length table.now.rows.now)
         (length numbers.old) out.old) result out.old out.new }
 {
     move_heads(first, second, shape, numbers, heads);
-    write_finished(shape, heads, rows, table, numbers, out)
+    write_finished(shape, heads, table, numbers, out)
 }
 
 // Lends the heads: a shape has at most 217 cells (R1, R2).
@@ -47,13 +46,12 @@ fn write_composed(
     first: &[u8],
     second: &[u8],
     shape: Shape,
-    rows: &[u64],
-    table: Table,
+    table: &Table,
     numbers: &mut [u16],
     out: &mut [u8],
-) -> Written
-    requires { Finished first.now second.now shape rows.now table numbers.old }
-    ensures { Writes (answer first.now second.now (length rows.now)
+) -> Result<usize, Refusal>
+    requires { Finished first.now second.now shape table.now numbers.old }
+    ensures { Writes (answer first.now second.now (length table.now.rows.now)
         (length numbers.old) out.old) result out.old out.new }
 {
     let mut heads = [0u16; 217];
@@ -62,7 +60,6 @@ fn write_composed(
         first,
         second,
         shape,
-        rows,
         table,
         numbers,
         &mut heads[..cells],
@@ -79,14 +76,15 @@ fn compose_pair(
     rows: &mut [u64],
     numbers: &mut [u16],
     out: &mut [u8],
-) -> Written
+) -> Result<usize, Refusal>
     requires { Pairs first.now second.now shape total (length rows.old) (length numbers.old) }
     ensures { Writes (answer first.now second.now (length rows.old)
         (length numbers.old) out.old) result out.old out.new }
 {
-    let start = copy_rows(first, shape, total, rows);
-    let table = carry_rows(first, second, shape, rows, start, numbers);
-    write_composed(first, second, shape, rows, table, numbers, out)
+    let mut table = Table::empty(rows);
+    copy_rows(first, shape, total, &mut table)?;
+    carry_rows(first, second, shape, &mut table, numbers)?;
+    write_composed(first, second, shape, &table, numbers, out)
 }
 
 // R40, R51, R54, R56: composes two accepted files. The shapes are the same (12), each row of the first has a row (10), and each row
@@ -97,21 +95,21 @@ pub fn compose_accepted(
     rows: &mut [u64],
     numbers: &mut [u16],
     out: &mut [u8],
-) -> Written
+) -> Result<usize, Refusal>
     requires { Taken first.now × Taken second.now }
     ensures { Writes (answer first.now second.now (length rows.old)
         (length numbers.old) out.old) result out.old out.new }
 {
     let shape = shape_at(first);
     if !same_shape(shape, shape_at(second)) {
-        return Written::Refused(Refusal::ShapesDiffer);
+        return Err(Refusal::ShapesDiffer);
     }
     let total = 2 + shape.cells() + word(first, 5);
     if rows.len() < total {
-        return Written::Refused(Refusal::NoRoom(0));
+        return Err(Refusal::NoRoom(0));
     }
     if numbers.len() < total + word(second, 5) {
-        return Written::Refused(Refusal::NoRoom(0));
+        return Err(Refusal::NoRoom(0));
     }
     compose_pair(first, second, shape, total, rows, numbers, out)
 }

@@ -2,61 +2,16 @@
 ghost use Rattle.std.specs.Prelude.{◌≡◌};
 ghost use Rattle.harness.specs.Lent.{all_are, Tells};
 
-// Whether every byte is x.
-pub fn bytes_are(s: &[u8], x: u8) -> bool
-    ensures { result ≡ all_are x s.now }
+// Whether every element is x.
+pub fn all_are<T: PartialEq + Copy>(s: &[T], x: T) -> bool
+    ensures { result ≡ all_are T.eq x s.now }
 {
-    let mut i = 0;
-    while i < s.len() {
-        if s[i] != x {
-            return false;
-        }
-        i += 1;
-    }
-    true
-}
-
-// Whether every number is x.
-pub fn numbers_are(s: &[u16], x: u16) -> bool
-    ensures { result ≡ all_are x s.now }
-{
-    let mut i = 0;
-    while i < s.len() {
-        if s[i] != x {
-            return false;
-        }
-        i += 1;
-    }
-    true
-}
-
-// Whether every row is x.
-pub fn rows_are(s: &[u64], x: u64) -> bool
-    ensures { result ≡ all_are x s.now }
-{
-    let mut i = 0;
-    while i < s.len() {
-        if s[i] != x {
-            return false;
-        }
-        i += 1;
-    }
-    true
+    s.iter().all(|y| *y == x)
 }
 
 // Whether two slices hold the same bytes.
 pub fn bytes_agree(a: &[u8], b: &[u8]) -> bool
     ensures { Tells result (a.now ≡ b.now) }
 {
-    if a.len() != b.len() {
-        return false;
-    }
-    let mut i = 0;
-    while i < a.len() {
-        if a[i] != b[i] {
-            return false;
-        }
-        i += 1;
-    }
-    true
+    a == b
 }

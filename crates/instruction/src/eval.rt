@@ -2,7 +2,6 @@
 ghost use Rattle.std.specs.Prelude.{◌≡◌};
 ghost use Rattle.instruction.specs.Value.{Readable, Values, joined};
 
-use base::bytes::wide;
 use reader::read_at;
 use storage::bits::{both, either};
 
@@ -21,7 +20,7 @@ pub fn value_at(file: &[u8], s: &[u8], vars: usize, stop: usize, at: usize) -> V
     let b = read_at(file, at);
     if b < 250 {
         return Valued {
-            bit: s[wide(b)],
+            bit: s[b as usize],
             next: at + 1,
         };
     }

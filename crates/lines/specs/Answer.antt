@@ -1,5 +1,5 @@
 -- What is printed of a set file and of a program file.
-use Rattle.std.specs.Prelude.{ℕ, ◌≤◌, refl, List, length, take, drop}
+use Rattle.std.specs.Prelude.{ℕ, Ok, Err, ◌+◌, ◌≤◌, refl, List, length, take, drop}
 use Rattle.std.proofs.Math.Path.{◌≡◌}
 use Rattle.std.proofs.Common.{sym, ap, ◌∙◌, arith, take_all, length-take-le}
 use Rattle.std.proofs.Math.Decide.{dec_lt}
@@ -9,62 +9,49 @@ use Rattle.rules.specs.Edition.{old}
 use Rattle.rules.specs.SetFile.{read_set}
 use Rattle.rules.specs.Operations.{build}
 use Rattle.rules.specs.Lines.{set_text, answer_text, tset}
-use Rattle.base.specs.Answers.{number_of, place_of, refused_by}
+use Rattle.base.specs.Answers.{Answer, number_of, place_of, refused_by, verdict_of}
 use Rattle.base.specs.declared.refusal.Refusal.{Refusal}
 use Rattle.sets.specs.Answer.{set-refused}
 use Rattle.sets.specs.Judging.{set_verdict}
 use Rattle.sets.specs.Spelt.{set_in, Taken, taken-read}
 use Rattle.writer.specs.Writes.{length_of}
-use Rattle.writer.specs.Put.{put-size, put_whole}
-use Rattle.build.specs.Contract.{answer, built_verdict, Builds, built-front}
-use Rattle.build.specs.declared.Built.{Built}
-use Rattle.build.specs.declared.Built.TheVariants.{Length, Refused}
-use Rattle.text.specs.Puts.{Fits, Puts}
+use Rattle.writer.specs.Put.{length-put, put_whole}
+use Rattle.build.specs.Contract.{answer, Builds, built-front}
+use Rattle.text.specs.Puts.{place, size, with_word}
+use Rattle.text.specs.declared.word.Text.{Text}
 use Rattle.text.specs.Texts.{refusal_line}
-use Rattle.lines.specs.Room.{set-fits, refusal_fits}
 
--- R61: the output begins with a text of r bytes.
-pub record Prints (x : List ℕ) (out : List ℕ) (r : ℕ) : Type 0 where
-  pub is : take r out ≡ x
-  pub inside : r ≤ length out
-
--- A text that was written from the start on is printed.
-printed : (x : List ℕ) {before after : List ℕ} {r : ℕ} → Fits x 0 before → Puts x 0 before after r → Prints x after r
-printed x {before} {after} {r} f p =
-    let n : r ≡ length x = omega (arith, p.moves) in
-    let whole = p.is ∙ put_whole before x (omega (arith, f.room)) in
-    record {
-      is = rw (n, whole) (take-append_seam x (drop (length x) before));
-      inside = omega (arith, f.room, put-size before 0 x p.is);
-    }
+-- R61: a text that was put from the start on is what the output begins with.
+pub begins : (t u : Text) (x : List ℕ) → u ≡ with_word t x → t.at ≡ 0 → place u ≤ size u → take (place u) u.out.now ≡ x
+unfolding with_word place size
+begins t u x q e h =
+    let n : t.at + length x ≡ length x = omega arith in
+    let k : length x ≤ length t.out.now = rw (← length-put t.out.now t.at x) (omega (arith, rw q at h)) in
+    rw (q, n, e, put_whole t.out.now x k) (take-append_seam x (drop (length x) t.out.now))
 
 -- ---- a set file
 
-module _ (file : List ℕ) {out after : List ℕ} {r : ℕ} (g : 230000 ≤ length out) where
-  -- R62: an accepted file prints its set.
-  pub set_prints : Taken file → length file ≤ 40957 → Puts (set_text (set_in file)) 0 out after r
-      → Prints (answer_text (read_set old file)) after r
-  set_prints a h p = rw (taken-read file a) (printed (set_text (set_in file)) (set-fits file a h g) p)
+module _ (file : List ℕ) where
+  -- R62: the text of an accepted file is that of its set.
+  pub taken_text : Taken file → answer_text (read_set old file) ≡ set_text (set_in file)
+  taken_text a = rw (taken-read file a) refl
 
-  -- R63: any other prints its refusal.
-  pub unread_prints : (x : Refusal) → refused_by x ≡ set_verdict file → Puts (refusal_line (number_of x) (place_of x)) 0 out after r
-      → Prints (answer_text (read_set old file)) after r
-  unfolding refusal_line
-  unread_prints x e p =
-      rw (set-refused file (number_of x) (place_of x) (sym e))
-      (printed (refusal_line (number_of x) (place_of x)) (refusal_fits (number_of x) (place_of x) g) p)
+  -- R63: the text of any other is its refusal.
+  pub unread_text : (x : Refusal) → refused_by x ≡ set_verdict file
+      → answer_text (read_set old file) ≡ refusal_line (number_of x) (place_of x)
+  unread_text x e = rw (set-refused file (number_of x) (place_of x) (sym e)) refl
 
 -- ---- a program file
 
-module _ (file : List ℕ) {rows numbers heads : ℕ} {before after : List ℕ} (b : Built) (n : ℕ)
-    (B : Builds file rows numbers heads b before after) (e : b ≡ Length n) where
+module _ (file : List ℕ) {rows numbers heads : ℕ} {before after : List ℕ} (b : Answer ℕ) (n : ℕ)
+    (B : Builds file rows numbers heads b before after) (e : b ≡ Ok n) where
   -- R59: what was built is what the output begins with.
   front : answer file rows numbers heads before ≡ granted (take n after)
   front = built-front file rows numbers heads n before after (rw e at B)
 
   pub built-inside : n ≤ length after
   built-inside =
-      let size = sym (ap built_verdict e) ∙ B.answers ∙ ap length_of front in
+      let size = sym (ap verdict_of e) ∙ B.answers ∙ ap length_of front in
       let k : n ≡ length (take n after) = cc size in
       elim (dec_lt (length after) n) [
         | yes p ↦ omega (arith, ap length (take_all n after (omega arith)))
@@ -78,24 +65,21 @@ module _ (file : List ℕ) {rows numbers heads : ℕ} {before after : List ℕ} 
 abbrev pub built_text : List ℕ → List ℕ
 built_text file = answer_text (build old file 8192 8192 16384 40957 >>= read_set old)
 
-module _ (file : List ℕ) {rows numbers heads : ℕ} {before after text : List ℕ} {r : ℕ} (b : Built)
+module _ (file : List ℕ) {rows numbers heads : ℕ} {before after : List ℕ} (b : Answer ℕ)
     (B : Builds file rows numbers heads b before after)
     (lent : (rows ≡ 8192) × (numbers ≡ 8192) × (heads ≡ 16384)) (out : length before ≡ 40957) where
   -- R62: what was built prints its set.
-  pub built_prints : (n : ℕ) → b ≡ Length n → Prints (answer_text (read_set old (take n after))) text r → Prints (built_text file) text r
-  built_prints n e p =
+  pub text_built : (n : ℕ) → b ≡ Ok n → built_text file ≡ answer_text (read_set old (take n after))
+  text_built n e =
       let (er, en, eh) = lent in
-      rw (rw (er, en, eh, out) at (front file b n B e)) p
+      rw (rw (er, en, eh, out) at (front file b n B e)) refl
 
   -- R63: a refusal is printed.
-  pub unbuilt_prints : (x : Refusal) → b ≡ Refused x → {whole : List ℕ} → 230000 ≤ length whole
-      → Puts (refusal_line (number_of x) (place_of x)) 0 whole text r → Prints (built_text file) text r
-  unfolding refusal_line
-  unbuilt_prints x e g p =
+  pub text_unbuilt : (x : Refusal) → b ≡ Err x → built_text file ≡ refusal_line (number_of x) (place_of x)
+  text_unbuilt x e =
       let (er, en, eh) = lent in
-      let no = refused_so (answer file rows numbers heads before) (sym (ap built_verdict e) ∙ B.answers) in
-      rw (rw (er, en, eh, out) at no)
-      (printed (refusal_line (number_of x) (place_of x)) (refusal_fits (number_of x) (place_of x) g) p)
+      let no = refused_so (answer file rows numbers heads before) (sym (ap verdict_of e) ∙ B.answers) in
+      rw (rw (er, en, eh, out) at no) refl
     where
       refused_so : (v : Verdict (List ℕ)) → refused_by x ≡ length_of v → v ≡ refused_by x
       refused_so (granted bytes) e =

@@ -1,5 +1,5 @@
 -- Room for the text: how long each line is at most.
-use Rattle.std.specs.Prelude.{ℕ, zero, suc, ◌+◌, ◌*◌, ◌≤◌, ◌<◌, ◌≡◌, refl, true, false, length}
+use Rattle.std.specs.Prelude.{ℕ, zero, suc, ◌+◌, ◌*◌, ◌≤◌, ◌<◌, ◌≡◌, true, false, length}
 use mathlib.Core.List.{List, ◌++◌, flat_map}
 use Rattle.std.proofs.Common.{arith, mul-zero, mul-suc, length-append}
 use Rattle.rules.specs.Edition.{old}
@@ -10,29 +10,31 @@ use Rattle.rules.specs.Text.{ascii}
 use Rattle.rules.specs.Lines.{line, set_text}
 use Rattle.rules.specs.Rows.{Row, leaf, inv, bin}
 use Rattle.laws.specs.Canonical.{Below}
+use Rattle.laws.specs.Shape.{header-granted, shape-limits}
 use Rattle.sets.specs.Spelt.{rows_in, set_in, Taken, spelt-length, taken_proper, taken-canonical}
 use Rattle.text.specs.Decimal.{length_word, length-decimal}
-use Rattle.text.specs.Puts.{Fits}
+use Rattle.text.specs.Puts.{place, size, Fits}
+use Rattle.text.specs.declared.word.Text.{Text}
 use Rattle.text.specs.Texts.{first_line, refusal_line, cell_line, row_line}
-use Rattle.lines.specs.Sets.{Opened, cell_text, row_text, set-parts, few-cells, few-rows, file-size}
+use Rattle.lines.specs.Sets.{cell_text, row_text, set_parts}
 
 -- R62, R63: the lines of two words and two numbers.
 refusal_length : (n p : ℕ) → length (refusal_line n p) ≤ 60
-unfolding refusal_line line ascii
+unfolding line ascii
 refusal_length n p = simp length-append (omega (arith, length-decimal n, length-decimal p))
 
 first-length : (C r : ℕ) → C ≤ 65535 → r ≤ 65535 → length (first_line C r) ≤ 24
-unfolding first_line line ascii
+unfolding line ascii
 first-length C r p q = simp length-append (omega (arith, length_word C p, length_word r q))
 
 -- R62: the line of a cell.
 cell-length : (c h : ℕ) → c ≤ 65535 → h ≤ 65535 → length (cell_line c h) ≤ 16
-unfolding cell_line line ascii
+unfolding line ascii
 cell-length c h p q = simp length-append (omega (arith, length_word c p, length_word h q))
 
 -- R62: the line of an operation row.
 row-length : (k : ℕ) (r : Row) → k ≤ 65535 → Below k r → length (row_line k r) ≤ 27
-unfolding row_line line ascii
+unfolding line ascii
 row-length k (leaf i) p b = simp length-append (omega (arith, length_word k p))
 row-length k (inv a) p b = simp length-append (omega (arith, length_word k p, length_word a (omega arith)))
 row-length k (bin true a b) p h =
@@ -60,8 +62,11 @@ module _ (file : List ℕ) (a : Taken file) (h : length file ≤ 40957) where
   abbrev z : TransferSet
   z = set_in file
 
-  o : Opened file (shape_at old file)
-  o = record { taken = a; is = refl }
+  -- R1, R2: there are few cells.
+  few-cells : cells (shape_at old file) ≤ 217
+  few-cells =
+      let l = shape-limits old (shape_at old file) (header-granted old 2 file (shape_at old file) a.header).shaped in
+      omega (arith, l.shallow, l.most)
 
   rows_are : length z.tab ≡ leaves (shape_at old file) + rows_in file
   rows_are = spelt-length file (shape_at old file) (rows_in file)
@@ -69,12 +74,12 @@ module _ (file : List ℕ) (a : Taken file) (h : length file ≤ 40957) where
   cells-length : length (flat_map (cell_text z) (from 0 (cells (shape_at old file)))) ≤ 16 * cells (shape_at old file)
   unfolding cell_text
   cells-length = lines_length (cell_text z) 16 0 (cells (shape_at old file)) (λ k p q. cell-length k _
-      (omega (arith, few-cells o)) (omega (arith, (taken_proper file a).rows k, rows_are, few-rows o)))
+      (omega (arith, few-cells)) (omega (arith, (taken_proper file a).rows k, rows_are, a.room)))
 
   rows-length : length (flat_map (row_text z) (from (leaves (shape_at old file)) (rows_in file))) ≤ 27 * rows_in file
   unfolding row_text
   rows-length = lines_length (row_text z) 27 (leaves (shape_at old file)) (rows_in file) (λ k p q. row-length k _
-      (omega (arith, few-rows o)) ((taken-canonical file a).earlier k p (omega (arith, rows_are))))
+      (omega (arith, a.room)) ((taken-canonical file a).earlier k p (omega (arith, rows_are))))
 
   set-length : length (set_text z) ≤ 230000
   set-length =
@@ -83,20 +88,20 @@ module _ (file : List ℕ) (a : Taken file) (h : length file ≤ 40957) where
       let first = first_line C r in
       let heads = flat_map (cell_text z) (from 0 C) in
       let rows = flat_map (row_text z) (from (leaves (shape_at old file)) r) in
-      rw (set-parts o C r refl refl) (omega (
+      rw (set_parts file (shape_at old file)) (omega (
         arith,
         length-append first (heads ++ rows),
         length-append heads rows,
-        first-length C r (omega (arith, few-cells o)) (omega (arith, few-rows o)),
+        first-length C r (omega (arith, few-cells)) (omega (arith, a.room)),
         cells-length,
         rows-length,
-        few-cells o,
-        file-size o,
+        few-cells,
+        a.size,
       ))
 
-  pub set-fits : {out : List ℕ} → 230000 ≤ length out → Fits (set_text z) 0 out
-  set-fits g = record { room = omega (arith, set-length) }
+  pub set-fits : (t : Text) → place t + 230000 ≤ size t → Fits (set_text z) t
+  set-fits t g = omega (arith, set-length)
 
 -- R63: a refusal has room there too.
-pub refusal_fits : (n p : ℕ) {out : List ℕ} → 230000 ≤ length out → Fits (refusal_line n p) 0 out
-refusal_fits n p g = record { room = omega (arith, refusal_length n p) }
+pub refusal_fits : (n p : ℕ) (t : Text) → place t + 230000 ≤ size t → Fits (refusal_line n p) t
+refusal_fits n p t g = omega (arith, refusal_length n p)

@@ -1,86 +1,71 @@
-// Writes the text of the set in an accepted file (R62). Each function here answers the place after what it wrote.
-ghost use Rattle.std.specs.Prelude.{◌<◌};
+// Puts the text of the set in an accepted file behind a text (R62).
+ghost use Rattle.std.specs.Prelude.{◌≡◌, ◌<◌};
 ghost use Rattle.rules.specs.Lines.{set_text};
 ghost use Rattle.rules.specs.Shape as S;
 ghost use Rattle.rules.specs.SetFile.{leaves};
 ghost use Rattle.base.specs.Answers.{shape_of};
-ghost use Rattle.sets.specs.Judging.{Among};
+ghost use Rattle.sets.specs.Judging.{spells, rows_of};
 ghost use Rattle.sets.specs.Spelt.{rows_in, set_in, Taken};
-ghost use Rattle.text.specs.Puts.{Fits, Puts};
-ghost use Rattle.lines.specs.Sets.{Opened, cell_text, cell_texts, row_text, row_texts};
+ghost use Rattle.text.specs.Puts.{Fits, with_word};
+ghost use Rattle.lines.specs.Sets.{cell_text, cell_texts, row_text, row_texts};
 
-use base::bytes::word;
 use base::kinds::{Cell, Row};
-use base::shape::Shape;
-use program::header::shape_at;
-use sets::read::{head_in, row_in};
-use text::line::{put_cell_line, put_first_line, put_row_line};
+use sets::read::SetFile;
+use text::word::Text;
 
 // R62: the line of a cell.
-fn put_cell_of(file: &[u8], shape: Shape, c: Cell, out: &mut [u8], at: usize) -> usize
-    requires opened { Opened file.now (shape_of shape) }
-    requires c_bound { c.0 < S.cells (shape_of shape) }
-    requires fits { Fits (cell_text (set_in file.now) c.0) at out.old }
-    ensures { Puts (cell_text (set_in file.now) c.0) at out.old out.new result }
+#[tactic(auto, using(crate::specs::Sets::file_lines))]
+fn put_cell_of(set: &SetFile<'_>, c: Cell, text: &mut Text<'_>)
+    requires c_bound { c.0 < S.cells (shape_of set.now.shape) }
+    requires fits { Fits (cell_text (spells set.now) c.0) text.old }
+    ensures { text.new ≡ with_word text.old (cell_text (spells set.now) c.0) }
 {
-    let head = head_in(file, c);
-    put_cell_line(out, at, c, head)
+    text.put_cell_line(c, set.head(c));
 }
 
 // R62: the line of each cell, in order.
-fn put_cell_lines(file: &[u8], shape: Shape, out: &mut [u8], at: usize) -> usize
-    requires opened { Opened file.now (shape_of shape) }
-    requires fits { Fits (cell_texts (set_in file.now) (S.cells (shape_of shape))) at out.old }
-    ensures { Puts (cell_texts (set_in file.now) (S.cells (shape_of shape))) at out.old out.new result }
+#[tactic(auto, using(text::specs::Puts::words, crate::specs::Sets::line_steps))]
+fn put_cell_lines(set: &SetFile<'_>, text: &mut Text<'_>)
+    requires { Fits (cell_texts (spells set.now) (S.cells (shape_of set.now.shape))) text.old }
+    ensures { text.new ≡ with_word text.old (cell_texts (spells set.now) (S.cells (shape_of set.now.shape))) }
 {
-    let cells = shape.cells();
-    let mut to = at;
-    let mut c = 0;
-    while c < cells {
-        to = put_cell_of(file, shape, Cell(c as u16), out, to);
-        c += 1;
+    for c in 0..set.shape.cells() {
+        put_cell_of(set, Cell(c as u16), text);
     }
-    to
 }
 
 // R62: the line of an operation row.
-fn put_row_of(file: &[u8], shape: Shape, k: Row, out: &mut [u8], at: usize) -> usize
-    requires opened { Opened file.now (shape_of shape) }
-    requires among { Among file.now (shape_of shape) k.0 }
-    requires fits { Fits (row_text (set_in file.now) k.0) at out.old }
-    ensures { Puts (row_text (set_in file.now) k.0) at out.old out.new result }
+#[tactic(auto, using(crate::specs::Sets::file_lines))]
+fn put_row_of(set: &SetFile<'_>, k: Row, text: &mut Text<'_>)
+    requires k_bound { k.0 < rows_of set.now }
+    requires fits { Fits (row_text (spells set.now) k.0) text.old }
+    ensures { text.new ≡ with_word text.old (row_text (spells set.now) k.0) }
 {
-    let node = row_in(file, shape, k);
-    put_row_line(out, at, k, node)
+    text.put_row_line(k, set.row(k));
 }
 
 // R62: the line of each operation row, in order.
-fn put_row_lines(file: &[u8], shape: Shape, out: &mut [u8], at: usize) -> usize
-    requires opened { Opened file.now (shape_of shape) }
-    requires fits { Fits (row_texts (set_in file.now) (leaves (shape_of shape)) (rows_in file.now)) at out.old }
-    ensures { Puts (row_texts (set_in file.now) (leaves (shape_of shape)) (rows_in file.now)) at
-        out.old out.new result }
+#[tactic(auto, using(text::specs::Puts::words, crate::specs::Sets::line_steps))]
+fn put_row_lines(set: &SetFile<'_>, text: &mut Text<'_>)
+    requires { Fits (row_texts (spells set.now) (leaves (shape_of set.now.shape)) (rows_in set.now.file.now)) text.old }
+    ensures { text.new ≡ with_word text.old
+        (row_texts (spells set.now) (leaves (shape_of set.now.shape)) (rows_in set.now.file.now)) }
 {
-    let leaves = 2 + shape.cells();
-    let rows = word(file, 5);
-    let mut to = at;
-    let mut j = 0;
-    while j < rows {
-        to = put_row_of(file, shape, Row((leaves + j) as u16), out, to);
-        j += 1;
+    let leaves = set.leaves();
+    for j in 0..set.rows() {
+        put_row_of(set, Row((leaves + j) as u16), text);
     }
-    to
 }
 
 // R62: the text of a set.
-pub fn put_set(file: &[u8], out: &mut [u8]) -> usize
+#[tactic(auto, using(text::specs::Puts::words, crate::specs::Sets::accepted_parts))]
+pub fn put_set(file: &[u8], text: &mut Text<'_>)
     requires taken { Taken file.now }
-    requires fits { Fits (set_text (set_in file.now)) 0 out.old }
-    ensures { Puts (set_text (set_in file.now)) 0 out.old out.new result }
+    requires fits { Fits (set_text (set_in file.now)) text.old }
+    ensures { text.new ≡ with_word text.old (set_text (set_in file.now)) }
 {
-    let shape = shape_at(file);
-    let rows = word(file, 5);
-    let a = put_first_line(out, 0, shape.cells(), rows);
-    let b = put_cell_lines(file, shape, out, a);
-    put_row_lines(file, shape, out, b)
+    let set = SetFile::accepted(file);
+    text.put_first_line(set.shape.cells(), set.rows());
+    put_cell_lines(&set, text);
+    put_row_lines(&set, text);
 }

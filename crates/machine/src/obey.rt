@@ -9,9 +9,10 @@ use base::kinds::Instr;
 use base::shape::Shape;
 use instruction::eval::value_at;
 use instruction::perform::{alone_op, value_op, variable_op};
-use program::body::instr_at;
+use program::file::Program;
 use reader::body::Body;
-use storage::{cell_at, reset};
+use reader::code::{AloneCode, LabelCode};
+use storage::cell_at;
 
 // Where the machine goes after an instruction.
 #[derive(Clone, Copy)]
@@ -24,43 +25,38 @@ pub enum Move {
     End,
 }
 
-// R22, R23: where the jump or call of a code leads, with the label l; the next instruction is `next`.
-fn jump(shape: Shape, s: &[u8], code: u8, next: Instr, l: Instr) -> Move
+// R22: where a jump or call leads, with the label l; the next instruction is `next`.
+fn jump(shape: Shape, s: &[u8], code: LabelCode, next: Instr, l: Instr) -> Move
     requires { Fitting shape s.now }
     ensures { result ≡ jump_by code (get_or s.now (flag (shape_of shape)) 0) next l }
 {
-    if code == 48 {
-        return Move::On(l);
+    let down = cell_at(s, shape.flag()) == 0;
+    match code {
+        LabelCode::Jp => Move::On(l),
+        LabelCode::Js => Move::Call(l),
+        LabelCode::Jpc | LabelCode::Jsc if down => Move::On(next),
+        LabelCode::Jpc => Move::On(l),
+        LabelCode::Jsc => Move::Call(l),
     }
-    if code == 50 {
-        return Move::Call(l);
-    }
-    if cell_at(s, shape.flag()) == 0 {
-        return Move::On(next);
-    }
-    if code == 49 {
-        return Move::On(l);
-    }
-    Move::Call(l)
 }
 
 // Performs one instruction on the storage, and says where the machine goes (R16 to R23).
-pub fn obey(file: &[u8], shape: Shape, n: usize, s: &mut [u8], i: Instr) -> Move
-    requires { Runnable file.now shape n s.old i.0 }
-    ensures { Obeys file.now s.old i.0 result s.new }
+pub fn obey(program: Program, s: &mut [u8], i: Instr) -> Move
+    requires { Runnable program s.old i.0 }
+    ensures { Obeys program.entry.file.now s.old i.0 result s.new }
 {
+    let shape = program.shape;
     let next = Instr(i.0 + 1);
-    match instr_at(file, n, i) {
+    match program.instr(i) {
         Body::Alone(code) => {
-            if code == 10 {
-                reset(s, shape.flag());
-                return Move::End;
-            }
             alone_op(shape, s, code);
-            Move::On(next)
+            match code {
+                AloneCode::End => Move::End,
+                _ => Move::On(next),
+            }
         }
         Body::Value(code, at) => {
-            let x = value_at(file, s, shape.vars(), at + 64, at);
+            let x = value_at(program.file, s, shape.vars(), at + 64, at);
             value_op(shape, s, code, x.bit);
             Move::On(next)
         }
@@ -69,5 +65,7 @@ pub fn obey(file: &[u8], shape: Shape, n: usize, s: &mut [u8], i: Instr) -> Move
             Move::On(next)
         }
         Body::Label(code, l) => jump(shape, s, code, next, l),
+        // An accepted program has no such code.
+        Body::Unknown => unreachable!(),
     }
 }

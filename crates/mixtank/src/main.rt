@@ -5,32 +5,30 @@ mod compare;
 mod published;
 
 use crate::compare::compare_all;
-use build::{Built, build};
-use harness::read::read_full;
-use harness::show::{broken, say, say_refusal};
+use build::build;
+use harness::show::{broken, say_refusal};
+use input::read_full;
 use std::io;
 use std::io::Write;
 
 // Says how many bytes the set has, and compares. The set is a part of the output that was lent.
-fn show_built(to: &mut impl Write, program: &[u8], out: &[u8], n: usize) -> io::Result<bool> {
-    if out.len() < n {
+fn show_built(to: &mut impl Write, program: &[u8], out: &[u8], n: usize) -> io::Result<()> {
+    let Some(set) = out.get(..n) else {
         return broken(to);
-    }
-    say(to, b"wrote ")?;
-    write!(to, "{n}")?;
-    say(to, b" bytes\n")?;
-    compare_all(to, program, &out[..n])
+    };
+    writeln!(to, "wrote {n} bytes")?;
+    compare_all(to, program, set)
 }
 
 // Builds the set of the program file. 33 instructions with 16 cells each need 528 heads (R55).
-fn run_on(to: &mut impl Write, program: &[u8]) -> io::Result<bool> {
+fn run_on(to: &mut impl Write, program: &[u8]) -> io::Result<()> {
     let mut rows = [0u64; 1024];
     let mut numbers = [0u16; 1024];
     let mut heads = [0u16; 528];
     let mut out = [0u8; 1024];
     match build(program, &mut rows, &mut numbers, &mut heads, &mut out) {
-        Built::Length(n) => show_built(to, program, &out, n),
-        Built::Refused(x) => say_refusal(to, x),
+        Ok(n) => show_built(to, program, &out, n),
+        Err(x) => say_refusal(to, x),
     }
 }
 
@@ -40,6 +38,5 @@ fn main(rt: HostRuntime) -> io::Result<()> {
     let mut from = rt.stdin();
     let mut to = rt.stdout();
     let n = read_full(&mut from, &mut file)?;
-    run_on(&mut to, &file[..n])?;
-    Ok(())
+    run_on(&mut to, &file[..n])
 }

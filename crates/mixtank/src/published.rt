@@ -5,7 +5,7 @@ ghost use Rattle.mixtank.specs.Published.{outputs_put, memory_put, published};
 
 use base::kinds::Cell;
 use storage::bits::{both, either, opposite};
-use storage::{copy_cells, put_cell, reset};
+use storage::{put_cell, reset};
 
 // The variables, a bit each, in the order of their numbers: 7 inputs, 4 outputs, 2 memory bits.
 #[derive(Clone, Copy)]
@@ -112,7 +112,7 @@ pub fn apply_formulas(before: &[u8], after: &mut [u8])
     ensures { after.new ≡ published before.now }
 {
     let t = tank_of(before);
-    copy_cells(before, after);
+    after.copy_from_slice(before);
     put_outputs(t, after);
     put_memory(t, after);
     reset(after, Cell(13));

@@ -1,39 +1,46 @@
 -- The main row of each instruction: what adding it asks for, and that the additions of the code make it.
-use Prim.Native.Nat.{ℕ, zero, suc, ◌+◌, ◌-◌, ◌≤◌, ◌<◌}
-use Rattle.std.specs.Prelude.{◌≡◌, Bool, ◌⊎◌, List, length}
+use Prim.Native.Nat.{ℕ, ◌+◌, ◌<◌}
+use Rattle.std.specs.Prelude.{◌≡◌, Bool, ◌⊎◌, List, Ok, Err}
 use Rattle.std.proofs.Math.Path.{refl}
 use Rattle.std.proofs.Math.Bool.{true, false}
 use Rattle.std.proofs.Common.{inl, inr}
 use native.Mathlib.Omega.{arith}
-use Rattle.std.proofs.Math.Decide.{dec_lt}
 use Rattle.rules.specs.Shape as R
 use Rattle.rules.specs.Shape.{vars, flag, cells}
 use Rattle.rules.specs.Expr.{Exp, con, cell, neg, Read}
 use Rattle.rules.specs.Expr as E
-use Rattle.rules.specs.Instr.{Plain, popped, effect}
-use Rattle.rules.specs.Rows.{inv, bin}
+use Rattle.rules.specs.Instr.{Plain, NOT, TAND, TOR, AND, OR, STORE, SET, REDGE, popped, effect}
+use Rattle.rules.specs.Rows.{bin}
 use Rattle.laws.specs.Own.{Simple, simple_row}
 use Rattle.base.specs.declared.shape.Shape.{Shape}
 use Rattle.base.specs.declared.kinds.Row as K
-use Rattle.base.specs.Answers.{shape_of}
-use Rattle.program.specs.Codes.{alone_of, on_expr, on_variable}
+use Rattle.base.specs.Answers.{Answer, shape_of}
+use Rattle.reader.specs.declared.code.AloneCode.{AloneCode}
+use Rattle.reader.specs.declared.code.AloneCode.TheVariants.{Init, Push, Pop, Drop, Dup, Fswp, Eswp, End}
+use Rattle.reader.specs.declared.code.ValueCode.{ValueCode}
+use Rattle.reader.specs.declared.code.ValueCode.TheVariants.{Load, And, Or, Epush}
+use Rattle.reader.specs.declared.code.VariableCode.{VariableCode}
+use Rattle.reader.specs.declared.code.VariableCode.TheVariants.{Res, Fedge}
+use Rattle.reader.specs.Codes.{alone_of, on_expr, on_variable}
 use Rattle.program.specs.Reading.{Reads, Legible}
 use Rattle.table.specs.declared.Table.{Table}
+use Rattle.base.specs.declared.refusal.Refusal.{Refusal}
+use Rattle.table.specs.Append.{Kept}
 use Rattle.rows.specs.Table.{Addable, Adds}
+use Rattle.rows.specs.Stored.{kept_refl}
 use Rattle.rows.specs.Making.{Open}
 use Rattle.rows.specs.declared.node.Node.TheVariants.{Not, Two}
-use Rattle.rows.specs.declared.adding.Added.{Added}
 use Rattle.spell.specs.declared.expression.Grown.{Grown}
-use Rattle.spell.specs.Made.{Made, made-simple, not-addable, made-not, two-addable, made-two}
-use Rattle.spell.specs.Spelling.{Spelling, Spells}
+use Rattle.spell.specs.Made.{Made, made-simple, full-two, made-not, full-second, two-addable, made-two}
+use Rattle.spell.specs.Spelling.{Spelt, Unspelt}
 use Rattle.spell.specs.SpellLaws.{reads_over}
 use Rattle.own.specs.Changes.{Inside, place_of, main_of}
 use Rattle.own.specs.ChangeLaws.{put-here, stack-below, pushed-here}
 
--- A shape, and a state that stands for a table of its cells.
-pub record Given (sh : Shape) (rows : List ℕ) (s : Table) : Type 0 where
+-- A shape, and a table of its cells that is stored.
+pub record Given (sh : Shape) (s : Table) : Type 0 where
   pub inside : Inside sh
-  pub opened : Open (cells (shape_of sh)) rows s
+  pub opened : Open (cells (shape_of sh)) s
 
 -- The main expression is a constant or a cell, and r is its row.
 pub record MainRow (sh : R.Shape) (p : Plain) (r : ℕ) : Type 0 where
@@ -42,84 +49,61 @@ pub record MainRow (sh : R.Shape) (p : Plain) (r : ℕ) : Type 0 where
 
 -- ---- a constant or a cell
 
-module _ (sh : R.Shape) (code : ℕ) where
+module _ (sh : R.Shape) (code : AloneCode) where
   main-row : (p : Plain) (x : Exp) (r : ℕ) → main_of sh p ≡ x → Simple x → r ≡ simple_row x → MainRow sh p r
   main-row p x r e h q = record { simple = rw e h; is = rw e q }
 
-  pub main_init : (code ≡ 0) ⊎ (code ≡ 10) → MainRow sh (alone_of code) 1
+  pub main_init : (code ≡ Init) ⊎ (code ≡ End) → MainRow sh (alone_of code) 1
   unfolding effect place_of
   main_init (inl z) = rw z (main-row _ (con true) 1 (put-here (flag sh) _ _) tt refl)
   main_init (inr z) = rw z (main-row _ (con true) 1 (put-here (flag sh) _ _) tt refl)
 
   module _ (f r : ℕ) (q : f ≡ flag sh) where
-    pub main-flag : r ≡ 2 + f → (code ≡ 4) ⊎ (code ≡ 6) → MainRow sh (alone_of code) r
+    pub main-flag : r ≡ 2 + f → (code ≡ Push) ⊎ (code ≡ Drop) → MainRow sh (alone_of code) r
     unfolding effect place_of popped
     main-flag e (inl z) = rw z (main-row _ (cell (flag sh)) r (pushed-here sh _) tt (omega arith))
     main-flag e (inr z) = rw z (main-row _ (cell (flag sh)) r (stack-below sh _ (flag sh) (omega arith)) tt (omega arith))
 
-    pub main-second : r ≡ 2 + (f + 2) → code ≡ 9 → MainRow sh (alone_of code) r
+    pub main-top : r ≡ 2 + (f + 1) → (code ≡ Pop) ⊎ ((code ≡ Dup) ⊎ (code ≡ Fswp)) → MainRow sh (alone_of code) r
+    unfolding effect place_of
+    main-top e (inl z) = rw z (main-row _ (cell (flag sh + 1)) r (put-here (flag sh) _ _) tt (omega arith))
+    main-top e (inr (inl z)) = rw z (main-row _ (cell (flag sh + 1)) r (pushed-here sh _) tt (omega arith))
+    main-top e (inr (inr z)) = rw z (main-row _ (cell (flag sh + 1)) r (put-here (flag sh) _ _) tt (omega arith))
+
+    pub main-second : r ≡ 2 + (f + 2) → code ≡ Eswp → MainRow sh (alone_of code) r
     unfolding effect place_of
     main-second e z = rw z (main-row _ (cell (flag sh + 2)) r (put-here (flag sh + 1) _ _) tt (omega arith))
 
-    pub main-top : r ≡ 2 + (f + 1) → 5 ≤ code → code < 9 → (code ≡ 6 → ⊥) → MainRow sh (alone_of code) r
-    unfolding effect place_of
-    main-top e h l n =
-        let z : code ≡ 5 + (code - 5) = omega arith in
-        rw z (go (code - 5) (omega arith) (λ k. n (omega arith)))
-      where
-        go : (j : ℕ) → j < 4 → (j ≡ 1 → ⊥) → MainRow sh (alone_of (5 + j)) r
-        go zero k m = main-row _ (cell (flag sh + 1)) r (put-here (flag sh) _ _) tt (omega arith)
-        go (suc zero) k m = absurd (m refl)
-        go (suc (suc zero)) k m = main-row _ (cell (flag sh + 1)) r (pushed-here sh _) tt (omega arith)
-        go (suc (suc (suc zero))) k m = main-row _ (cell (flag sh + 1)) r (put-here (flag sh) _ _) tt (omega arith)
-        go (suc (suc (suc (suc j)))) k m = absurd (omega arith)
-
 -- ---- operations over cells
 
-module _ {C : ℕ} {rows : List ℕ} {s : Table} (c : ℕ) (x : K.Row) (q : x.0 ≡ 2 + c) where
+module _ {C : ℕ} {s : Table} (c : ℕ) (x : K.Row) (q : x.0 ≡ 2 + c) where
   -- R26: the row of a cell.
-  pub made-cell : Made C rows s (cell c) (record { row = x; table = s }) rows
-  made-cell = made-simple C rows s (cell c) tt x (omega arith)
+  pub made-cell : Made C s (cell c) (Ok x) s
+  made-cell = made-simple C s (cell c) tt x (omega arith)
 
   module _ (h : c < C) where
-    pub cell-addable : Open C rows s → s.refused ≡ false → Addable rows s.used (inv x.0)
-    cell-addable o = not-addable h made-cell o
+    pub made_opposite : {r : Answer K.Row} {s' : Table} → Adds s (Not x) r s' → Made C s (neg (cell c)) r s'
+    made_opposite d = made-not h made-cell (kept_refl s) d
 
-    pub made_opposite : {a : Added} {after : List ℕ} → Adds rows s (Not x) a after → length after ≡ length rows
-        → Made C rows s (neg (cell c)) a after
-    made_opposite d size = made-not h made-cell d size
-
-module _ {C : ℕ} {rows : List ℕ} {s : Table} (c : ℕ) (x : K.Row) (q : x.0 ≡ 2 + c) (h : c < C)
+module _ {C : ℕ} {s : Table} (c : ℕ) (x : K.Row) (q : x.0 ≡ 2 + c) (h : c < C)
     (e : ℕ) (y : K.Row) (p : y.0 ≡ 2 + e) (g : e < C) (o : Bool) where
-  pub cells-addable : Open C rows s → s.refused ≡ false → Addable rows s.used (bin o x.0 y.0)
-  cells-addable w = two-addable h (made-cell c x q) g (made-cell e y p) refl o w
+  pub made_cells : {r : Answer K.Row} {s' : Table} → Adds s (Two o x y) r s' → Made C s (E.bin o (cell c) (cell e)) r s'
+  made_cells d = made-two h (made-cell c x q) g (made-cell e y p) o (kept_refl s) d
 
-  pub made_cells : {a : Added} {after : List ℕ} → Adds rows s (Two o x y) a after → length after ≡ length rows
-      → Made C rows s (E.bin o (cell c) (cell e)) a after
-  made_cells d size = made-two h (made-cell c x q) g (made-cell e y p) refl o d size
+-- ---- instructions
 
--- ---- instructions by their code
-
--- R18: the codes of RES and FEDGE.
-pub falls : (code : ℕ) → (code ≡ 32 → ⊥) → (code ≡ 33 → ⊥) → (code ≡ 35 → ⊥) → 32 ≤ code → code < 37 → (code ≡ 34) ⊎ (code ≡ 36)
-falls code a b c h l = elim (dec_lt code 35) [ yes k ↦ inl (omega arith) | no k ↦ inr (omega arith) ]
-
--- R17, R19: the codes of LOAD and EPUSH.
-pub loads : (code : ℕ) → (code ≡ 17 → ⊥) → (code ≡ 18 → ⊥) → 16 ≤ code → code < 20 → (code ≡ 16) ⊎ (code ≡ 19)
-loads code a b h l = elim (dec_lt code 17) [ yes k ↦ inl (omega arith) | no k ↦ inr (omega arith) ]
-
-module _ (sh : Shape) {rows : List ℕ} {s : Table} (g : Given sh rows s) (code : ℕ) where
+module _ {sh : Shape} {s : Table} (g : Given sh s) where
   abbrev S : R.Shape
   S = shape_of sh
 
   abbrev C : ℕ
   C = cells S
 
-  abbrev Makes : Plain → Added → List ℕ → Type 0
-  Makes p a after = Made C rows s (main_of S p) a after
+  abbrev Makes : Plain → Answer K.Row → Table → Type 0
+  Makes p r s' = Made C s (main_of S p) r s'
 
-  pub row-stands : (r : K.Row) → MainRow S (alone_of code) r.0 → Makes (alone_of code) (record { row = r; table = s }) rows
-  row-stands r m = made-simple C rows s (main_of S (alone_of code)) m.simple r m.is
+  pub row-stands : (p : Plain) (r : K.Row) → MainRow S p r.0 → Makes p (Ok r) s
+  row-stands p r m = made-simple C s (main_of S p) m.simple r m.is
 
   -- The row x of the flag.
   module _ (f : ℕ) (q : f ≡ flag S) (x : K.Row) (e : x.0 ≡ 2 + f) where
@@ -129,111 +113,111 @@ module _ (sh : Shape) {rows : List ℕ} {s : Table} (g : Given sh rows s) (code 
     in_flag : flag S < C
     in_flag = omega arith
 
-    pub opposite_addable : s.refused ≡ false → Addable rows s.used (inv x.0)
-    opposite_addable = cell-addable (flag S) x flag-row (omega arith) g.opened
+    made_flag : Made C s (cell (flag S)) (Ok x) s
+    made_flag = made-cell (flag S) x flag-row
 
-    pub row-not : code ≡ 1 → (a : Added) (after : List ℕ) → Adds rows s (Not x) a after → length after ≡ length rows
-        → Makes (alone_of code) a after
+    pub row-not : (r : Answer K.Row) (s' : Table) → Adds s (Not x) r s' → Makes NOT r s'
     unfolding effect place_of
-    row-not z a after d size = rw (z, put-here) (made_opposite (flag S) x flag-row (omega arith) d size)
+    row-not r s' d = rw put-here (made_opposite (flag S) x flag-row in_flag d)
 
     -- The row y of the top of the stack.
     module _ (y : K.Row) (p : y.0 ≡ 2 + (f + 1)) where
-      pub top-addable : (o : Bool) → s.refused ≡ false → Addable rows s.used (bin o x.0 y.0)
-      top-addable o = cells-addable (flag S) x flag-row (omega arith) (flag S + 1) y (omega arith)
-          (omega (arith, g.inside.deep)) o g.opened
-
-      pub row_tand : code ≡ 2 → (a : Added) (after : List ℕ) → Adds rows s (Two true x y) a after → length after ≡ length rows
-          → Makes (alone_of code) a after
+      pub row_tand : (r : Answer K.Row) (s' : Table) → Adds s (Two true x y) r s' → Makes TAND r s'
       unfolding effect place_of
-      row_tand z a after d size = rw (z, put-here)
-          (made_cells (flag S) x flag-row (omega arith) (flag S + 1) y (omega arith) (omega (arith, g.inside.deep)) true d size)
+      row_tand r s' d = rw put-here
+          (made_cells (flag S) x flag-row in_flag (flag S + 1) y (omega arith) (omega (arith, g.inside.deep)) true d)
 
-      pub row_tor : code ≡ 3 → (a : Added) (after : List ℕ) → Adds rows s (Two false x y) a after → length after ≡ length rows
-          → Makes (alone_of code) a after
+      pub row_tor : (r : Answer K.Row) (s' : Table) → Adds s (Two false x y) r s' → Makes TOR r s'
       unfolding effect place_of
-      row_tor z a after d size = rw (z, put-here)
-          (made_cells (flag S) x flag-row (omega arith) (flag S + 1) y (omega arith) (omega (arith, g.inside.deep)) false d size)
+      row_tor r s' d = rw put-here
+          (made_cells (flag S) x flag-row in_flag (flag S + 1) y (omega arith) (omega (arith, g.inside.deep)) false d)
 
     -- R18: the row y of the variable b.
     module _ (b : ℕ) (low : b < vars S) (y : K.Row) (p : y.0 ≡ 2 + b) where
       in_variable : b < C
       in_variable = omega arith
 
-      pub row-store : code ≡ 32 → Makes (on_variable code b) (record { row = x; table = s }) rows
+      pub row-store : Makes (STORE b) (Ok x) s
       unfolding effect place_of
-      row-store z = rw (z, put-here) (made-cell (flag S) x flag-row)
+      row-store = rw put-here made_flag
 
-      pub pair-addable : (o : Bool) → s.refused ≡ false → Addable rows s.used (bin o x.0 y.0)
-      pair-addable o = cells-addable (flag S) x flag-row (omega arith) b y p (omega arith) o g.opened
-
-      pub row-set : code ≡ 33 → (a : Added) (after : List ℕ) → Adds rows s (Two false x y) a after → length after ≡ length rows
-          → Makes (on_variable code b) a after
+      pub row-set : (r : Answer K.Row) (s' : Table) → Adds s (Two false x y) r s' → Makes (SET b) r s'
       unfolding effect place_of
-      row-set z a after d size = rw (z, put-here) (made_cells (flag S) x flag-row (omega arith) b y p (omega arith) false d size)
+      row-set r s' d = rw put-here (made_cells (flag S) x flag-row in_flag b y p in_variable false d)
 
-      pub variable_addable : s.refused ≡ false → Addable rows s.used (inv y.0)
-      variable_addable = cell-addable b y p (omega arith) g.opened
+      -- NOT of the variable, for which no row is left, or after which there is AND.
+      pub rise_full : (e : Refusal) (s' : Table) → Adds s (Not y) (Err e) s' → Makes (REDGE b) (Err e) s'
+      unfolding effect place_of
+      rise_full e s' m = rw put-here (full-second in_flag made_flag (kept_refl s) true (made_opposite b y p in_variable m))
 
-      -- After NOT of the variable.
-      module _ (n : Added) (mid : List ℕ) (m : Adds rows s (Not y) n mid) (kept : length mid ≡ length rows) where
-        pub rise_addable : (o : Bool) → n.table.refused ≡ false → Addable mid n.table.used (bin o x.0 n.row.0)
-        rise_addable o = two-addable {C = C} {x = cell (flag S)} in_flag (made-cell (flag S) x flag-row) in_variable
-            (made_opposite b y p (omega arith) m kept) kept o g.opened
+      module _ {n : K.Row} {s₁ : Table} (m : Adds s (Not y) (Ok n) s₁) where
+        pub rise_addable : (o : Bool) → Addable s₁ (bin o x.0 n.0)
+        rise_addable o = two-addable in_flag made_flag in_variable (made_opposite b y p in_variable m) o g.opened
 
-        pub row_rise : code ≡ 35 → (a : Added) (after : List ℕ) → Adds mid n.table (Two true x n.row) a after
-            → length after ≡ length mid → Makes (on_variable code b) a after
+        pub row_rise : Kept s s₁ → (r : Answer K.Row) (s' : Table) → Adds s₁ (Two true x n) r s' → Makes (REDGE b) r s'
         unfolding effect place_of
-        row_rise z a after d size = rw (z, put-here)
-            (made-two {C = C} {x = cell (flag S)} in_flag (made-cell (flag S) x flag-row) in_variable
-            (made_opposite b y p (omega arith) m kept) kept true d size)
+        row_rise k r s' d = rw put-here
+            (made-two in_flag made_flag in_variable (made_opposite b y p in_variable m) true k d)
 
-      -- After NOT of the flag.
-      module _ (n : Added) (mid : List ℕ) (m : Adds rows s (Not x) n mid) (kept : length mid ≡ length rows) where
-        pub fall_addable : (o : Bool) → n.table.refused ≡ false → Addable mid n.table.used (bin o n.row.0 y.0)
-        fall_addable o = two-addable {C = C} {x = neg (cell (flag S))} in_flag
-            (made_opposite (flag S) x flag-row (omega arith) m kept) in_variable (made-cell b y p) refl o g.opened
-
-        pub row_fall : (code ≡ 34) ⊎ (code ≡ 36) → (a : Added) (after : List ℕ) → Adds mid n.table (Two true n.row y) a after
-            → length after ≡ length mid → Makes (on_variable code b) a after
+      -- The same with NOT of the flag.
+      module _ (code : VariableCode) (is : (code ≡ Res) ⊎ (code ≡ Fedge)) where
+        fall-is : {r : Answer K.Row} {s' : Table} → Made C s (E.bin true (neg (cell (flag S))) (cell b)) r s'
+            → Makes (on_variable code b) r s'
         unfolding effect place_of
-        row_fall (inl z) a after d size = rw (z, put-here)
-            (made-two {C = C} {x = neg (cell (flag S))} in_flag
-            (made_opposite (flag S) x flag-row (omega arith) m kept) in_variable (made-cell b y p) refl true d size)
-        row_fall (inr z) a after d size = rw (z, put-here)
-            (made-two {C = C} {x = neg (cell (flag S))} in_flag
-            (made_opposite (flag S) x flag-row (omega arith) m kept) in_variable (made-cell b y p) refl true d size)
+        fall-is m = elim is [ inl z ↦ rw (z, put-here) m | inr z ↦ rw (z, put-here) m ]
+
+        pub fall_full : (e : Refusal) (s' : Table) → Adds s (Not x) (Err e) s' → Makes (on_variable code b) (Err e) s'
+        fall_full e s' m = fall-is (full-two (made_opposite (flag S) x flag-row in_flag m) true (cell b))
+
+        module _ {n : K.Row} {s₁ : Table} (m : Adds s (Not x) (Ok n) s₁) where
+          pub fall_addable : (o : Bool) → Addable s₁ (bin o n.0 y.0)
+          fall_addable o = two-addable in_flag (made_opposite (flag S) x flag-row in_flag m) in_variable (made-cell b y p) o g.opened
+
+          pub row_fall : Kept s s₁ → (r : Answer K.Row) (s' : Table) → Adds s₁ (Two true n y) r s' → Makes (on_variable code b) r s'
+          row_fall k r s' d = fall-is
+              (made-two in_flag (made_opposite (flag S) x flag-row in_flag m) in_variable (made-cell b y p) true k d)
 
     -- R17, R19: the expression that stands at a place.
     module _ (file : List ℕ) (stop at v : ℕ) (k : v ≡ vars S) (legible : Legible file (vars S) stop at) where
-      pub value_spelling : Spelling file v stop at rows s
-      value_spelling = rw k (record { legible = legible; count = C; enough = omega arith; opened = g.opened })
+      -- No row is left for it.
+      pub value_full : (code : ValueCode) {e : Refusal} {s' : Table} → Unspelt file v stop at s e s' → (y : Read Exp)
+          → Reads file (vars S) stop at y → Makes (on_expr code y.got) (Err e) s'
+      unfolding effect place_of
+      value_full code {e} {s'} w y h = go code
+        where
+          full : Made C s y.got (Err e) s'
+          full = (rw k at w).full C (omega arith) y h
 
-      module _ (r : Grown) (mid : List ℕ) (w : Spells file v stop at rows s r mid) (kept : length mid ≡ length rows) where
-        value_made : (y : Read Exp) → Reads file (vars S) stop at y → Made C rows s y.got r.added mid
+          go : (code : ValueCode) → Makes (on_expr code y.got) (Err e) s'
+          go Load = rw put-here full
+          go And = rw put-here (full-second in_flag made_flag (kept_refl s) true full)
+          go Or = rw put-here (full-second in_flag made_flag (kept_refl s) false full)
+          go Epush = rw pushed-here full
+
+      module _ {r : Grown} {s₁ : Table} (w : Spelt file v stop at s r s₁) where
+        value_made : (y : Read Exp) → Reads file (vars S) stop at y → Made C s y.got (Ok r.row) s₁
         value_made y h = (rw k at w).made C (omega arith) y h
 
-        pub value-addable : (o : Bool) → r.added.table.refused ≡ false
-            → Addable mid r.added.table.used (bin o x.0 r.added.row.0)
-        value-addable o = two-addable {C = C} {x = cell (flag S)} (omega arith) (made-cell (flag S) x flag-row)
-            (reads_over C (omega arith) legible.reads) (value_made legible.what legible.reads) kept o g.opened
+        pub value-addable : (o : Bool) → Addable s₁ (bin o x.0 r.row.0)
+        value-addable o = two-addable in_flag made_flag
+            (reads_over C (omega arith) legible.reads) (value_made legible.what legible.reads) o g.opened
 
-        pub row-and : code ≡ 17 → (a : Added) (after : List ℕ) → Adds mid r.added.table (Two true x r.added.row) a after
-            → length after ≡ length mid → (y : Read Exp) → Reads file (vars S) stop at y → Makes (on_expr code y.got) a after
-        unfolding effect place_of
-        row-and z a after d size y h = rw (z, put-here)
-            (made-two {C = C} {x = cell (flag S)} (omega arith) (made-cell (flag S) x flag-row)
-            (reads_over C (omega arith) h) (value_made y h) kept true d size)
+        two_made : (o : Bool) → Kept s s₁ → {r' : Answer K.Row} {s' : Table} → Adds s₁ (Two o x r.row) r' s' → (y : Read Exp)
+            → Reads file (vars S) stop at y → Made C s (E.bin o (cell (flag S)) y.got) r' s'
+        two_made o l d y h = made-two in_flag made_flag (reads_over C (omega arith) h) (value_made y h) o l d
 
-        pub row-or : code ≡ 18 → (a : Added) (after : List ℕ) → Adds mid r.added.table (Two false x r.added.row) a after
-            → length after ≡ length mid → (y : Read Exp) → Reads file (vars S) stop at y → Makes (on_expr code y.got) a after
+        pub row-and : Kept s s₁ → (r' : Answer K.Row) (s' : Table) → Adds s₁ (Two true x r.row) r' s' → (y : Read Exp)
+            → Reads file (vars S) stop at y → Makes (AND y.got) r' s'
         unfolding effect place_of
-        row-or z a after d size y h = rw (z, put-here)
-            (made-two {C = C} {x = cell (flag S)} (omega arith) (made-cell (flag S) x flag-row)
-            (reads_over C (omega arith) h) (value_made y h) kept false d size)
+        row-and l r' s' d y h = rw put-here (two_made true l d y h)
 
-        pub row-load : (code ≡ 16) ⊎ (code ≡ 19) → (y : Read Exp) → Reads file (vars S) stop at y
-            → Makes (on_expr code y.got) r.added mid
+        pub row-or : Kept s s₁ → (r' : Answer K.Row) (s' : Table) → Adds s₁ (Two false x r.row) r' s' → (y : Read Exp)
+            → Reads file (vars S) stop at y → Makes (OR y.got) r' s'
         unfolding effect place_of
-        row-load (inl z) y h = rw (z, put-here) (value_made y h)
-        row-load (inr z) y h = rw (z, pushed-here) (value_made y h)
+        row-or l r' s' d y h = rw put-here (two_made false l d y h)
+
+        pub row-load : (code : ValueCode) → (code ≡ Load) ⊎ (code ≡ Epush) → (y : Read Exp) → Reads file (vars S) stop at y
+            → Makes (on_expr code y.got) (Ok r.row) s₁
+        unfolding effect place_of
+        row-load code (inl z) y h = rw (z, put-here) (value_made y h)
+        row-load code (inr z) y h = rw (z, pushed-here) (value_made y h)

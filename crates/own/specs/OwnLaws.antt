@@ -1,5 +1,5 @@
 -- The row and heads that the code makes are an instruction's own set.
-use Rattle.std.specs.Prelude.{ℕ, ◌<◌, ◌≡◌, List, map, length, get_or, set}
+use Rattle.std.specs.Prelude.{ℕ, ◌<◌, ◌≡◌, List, map, length, get_or, set, Ok, Err}
 use Rattle.std.proofs.Common.{sym, ap, ◌∙◌, arith, length-set, ext_get_or, get_or-set_same, get_or-set_other}
 use Rattle.std.proofs.Math.Decide.{ℕ_discrete}
 use Rattle.std.proofs.lemmas.List.{length-map}
@@ -8,11 +8,16 @@ use Rattle.rules.specs.Shape as R
 use Rattle.rules.specs.Shape.{cells}
 use Rattle.rules.specs.Expr.{cell}
 use Rattle.rules.specs.Instr.{Plain, effect}
-use Rattle.rules.specs.Rows.{row_of_cell}
+use Rattle.rules.specs.Rows.{Row, row_of_cell}
+use Rattle.rules.specs.Build.{own, add_exp}
+use Rattle.laws.specs.Canonical.{Canonical}
+use Rattle.laws.specs.After.{over}
 use Rattle.laws.specs.Lists.{length_from, get_or-map-from}
 use Rattle.laws.specs.Own.{Simple, simple_row, own-one}
+use Rattle.base.specs.declared.kinds.Row as K
+use Rattle.base.specs.declared.refusal.Refusal.{Refusal}
 use Rattle.table.specs.declared.Table.{Table}
-use Rattle.rows.specs.declared.adding.Added.{Added}
+use Rattle.rows.specs.Table.{Stored, Exceeds}
 use Rattle.own.specs.declared.heads.Change.{Change}
 use Rattle.spell.specs.Made.{Made}
 use Rattle.own.specs.Changes.{place_of, main_of, moved_by, moved_heads, rest_by, changed, Changes}
@@ -56,13 +61,20 @@ module _ (sh : R.Shape) (p : Plain) (x : Change) (g : Changes sh p x) where
       ])
 
   -- R37: the main row, and the heads by the change.
-  pub own-drawn : {rows after : List ℕ} {s : Table} {a : Added} → Made (cells sh) rows s (main_of sh p) a after → (made : List ℕ)
-      → made ≡ changed sh x a.row.0 → Owns sh p rows s after a.table made
-  own-drawn {a = a} m made e t w h =
-      let z = m.gives t w h in
+  own-is : (t : List Row)
+      → own t sh p ≡ over (add_exp t (main_of sh p)).tab (set heads (place_of sh p) (add_exp t (main_of sh p)).row)
+  own-is t =
       let simple : (c : ℕ) → (c ≡ place_of sh p → ⊥) → Simple (effect sh p c)
       = λ c n. rw (g.rest c (λ q. n (q ∙ g.place))) (rest-simple sh x c) in
-      rw (own-one t sh p (place_of sh p) (omega (arith, g.main, g.place)) simple) (record {
-        holds = z.holds;
-        same = λ f. e ∙ heads-changed a.row.0 ∙ rw (g.place, z.row f);
-      })
+      own-one t sh p (place_of sh p) (omega (arith, g.main, g.place)) simple
+
+  pub own-drawn : {s s' : Table} {a : K.Row} → Made (cells sh) s (main_of sh p) (Ok a) s' → (made : List ℕ)
+      → made ≡ changed sh x a.0 → Owns sh p s (Ok tt) s' made
+  own-drawn {a = a} m made e t w h =
+      let z = m.gives t w h in
+      rw (own-is t) (record { stored = z.0; same = e ∙ heads-changed a.0 ∙ rw (g.place, z.1) })
+
+  -- No row is left for it.
+  pub own-full : {s s' : Table} {e : Refusal} → Made (cells sh) s (main_of sh p) (Err e) s' → (t : List Row) → Canonical (cells sh) t
+      → Stored s t → Exceeds s e (own t sh p).tab
+  own-full m t w h = rw (own-is t) (m.gives t w h)

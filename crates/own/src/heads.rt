@@ -3,13 +3,14 @@ ghost use Rattle.std.specs.Prelude.{◌≡◌, ◌≤◌, ◌<◌, length};
 ghost use Rattle.base.specs.Answers.{shape_of};
 ghost use Rattle.rules.specs.Shape.{vars, cells};
 ghost use Rattle.rules.specs.Expr.{Exp};
-ghost use Rattle.program.specs.Codes.{alone_of, on_expr, on_variable};
+ghost use Rattle.reader.specs.Codes.{alone_of, on_expr, on_variable};
 ghost use Rattle.laws.specs.Own.{simple_row};
 ghost use Rattle.own.specs.declared.heads.Move.TheVariants.{Popped};
 ghost use Rattle.own.specs.Changes.{moved_by, moved_heads, Inside, One, Changes, changed};
 
 use base::kinds::{Cell, Row};
 use base::shape::Shape;
+use reader::code::{AloneCode, ValueCode, VariableCode};
 
 // R16 to R19: what becomes of the stack: each cell is kept, gets what the cell before it has, what the cell after it has, or 0.
 #[derive(Clone, Copy)]
@@ -43,59 +44,55 @@ fn change_of(stack: Move, main: Cell) -> Change
 }
 
 // R17, R19: the change of an instruction that stands alone; END's is INIT's.
-pub fn change_alone(shape: Shape, code: u8) -> Change
-    requires inside { Inside shape }
-    requires code_bound { code ≤ 10 }
+pub fn change_alone(shape: Shape, code: AloneCode) -> Change
+    requires { Inside shape }
     ensures { Changes (shape_of shape) (alone_of code) result }
 {
     let f = shape.flag();
     let e = Cell(f.0 + 1);
     match code {
-        0 | 10 => change_of(Move::Reset, f),
-        4 | 7 => change_of(Move::Pushed, e),
-        8 => Change {
+        AloneCode::Init | AloneCode::End => change_of(Move::Reset, f),
+        AloneCode::Not | AloneCode::Tand | AloneCode::Tor => change_of(Move::Kept, f),
+        AloneCode::Push | AloneCode::Dup => change_of(Move::Pushed, e),
+        AloneCode::Pop | AloneCode::Drop => change_of(Move::Popped, f),
+        AloneCode::Fswp => Change {
             stack: Move::Kept,
             source: f,
             target: e,
             main: f,
         },
-        9 => Change {
+        AloneCode::Eswp => Change {
             stack: Move::Kept,
             source: e,
             target: Cell(f.0 + 2),
             main: e,
         },
-        _ => {
-            if code < 4 {
-                change_of(Move::Kept, f)
-            } else {
-                change_of(Move::Popped, f)
-            }
-        }
     }
 }
 
 // R17, R19: the change of an instruction that takes an expression.
-pub fn change_value(shape: Shape, code: u8) -> Change
-    requires inside { Inside shape }
-    requires le_code { (16 ≤ code) × (code < 20) }
+pub fn change_value(shape: Shape, code: ValueCode) -> Change
+    requires { Inside shape }
     ensures { (x : Exp) → Changes (shape_of shape) (on_expr code x) result }
 {
     let f = shape.flag();
-    if code == 19 {
-        return change_of(Move::Pushed, Cell(f.0 + 1));
+    match code {
+        ValueCode::Load | ValueCode::And | ValueCode::Or => change_of(Move::Kept, f),
+        ValueCode::Epush => change_of(Move::Pushed, Cell(f.0 + 1)),
     }
-    change_of(Move::Kept, f)
 }
 
 // R18: the change of an instruction that takes the variable b.
-pub fn change_variable(shape: Shape, code: u8, b: Cell) -> Change
+pub fn change_variable(shape: Shape, code: VariableCode, b: Cell) -> Change
     requires inside { Inside shape }
-    requires le_code { (32 ≤ code) × (code < 37) × (b.0 < vars (shape_of shape)) }
+    requires variable { b.0 < vars (shape_of shape) }
     ensures { Changes (shape_of shape) (on_variable code b.0) result }
 {
     let f = shape.flag();
-    let main = if code < 35 { b } else { f };
+    let main = match code {
+        VariableCode::Store | VariableCode::Set | VariableCode::Res => b,
+        VariableCode::Redge | VariableCode::Fedge => f,
+    };
     Change {
         stack: Move::Kept,
         source: f,
@@ -139,11 +136,8 @@ fn move_heads(shape: Shape, stack: Move, made: &mut [u16])
     requires made_len { length made.old ≡ cells (shape_of shape) }
     ensures { made.new ≡ moved_heads (shape_of shape) stack }
 {
-    let mut c = 0;
-    while c < made.len() {
-        let head = head_by(shape, stack, Cell(c as u16));
-        made[c] = head.0;
-        c += 1;
+    for (c, head) in made.iter_mut().enumerate() {
+        *head = head_by(shape, stack, Cell(c as u16)).0;
     }
 }
 

@@ -3,55 +3,39 @@ ghost use Rattle.std.specs.Prelude.{◌+◌, ◌≤◌, ◌<◌, length};
 ghost use Rattle.base.specs.Answers.{shape_of};
 ghost use Rattle.rules.specs.Expr.{Exp, Read};
 ghost use Rattle.rules.specs.Shape.{vars, cells};
-ghost use Rattle.program.specs.Codes.{alone_of, on_expr, on_variable};
+ghost use Rattle.reader.specs.Codes.{alone_of, on_expr, on_variable};
 ghost use Rattle.program.specs.Reading.{Reads, Legible};
+ghost use Rattle.table.specs.Append.{Kept};
 ghost use Rattle.spell.specs.Made.{Made};
-ghost use Rattle.own.specs.Changes.{Inside, main_of};
-ghost use Rattle.own.specs.Mains.{Given, MainRow};
+ghost use Rattle.own.specs.Changes.{main_of};
+ghost use Rattle.own.specs.Mains.{Given};
 
 use base::kinds::{Cell, Row};
+use base::refusal::Refusal;
 use base::shape::Shape;
-use rows::adding::{Added, add};
+use reader::code::{AloneCode, ValueCode, VariableCode};
+use rows::adding::add;
 use rows::node::Node;
 use spell::expression::add_expression;
 use table::Table;
 
-// R17, R19: the row of INIT's 1, or of the cell that PUSH, POP, DROP, DUP, FSWP, ESWP give the main cell.
-fn row_moved(shape: Shape, code: u8) -> Row
-    requires inside { Inside shape }
-    requires code_bound { (code ≤ 10) × ((1 ≤ code) → 4 ≤ code) }
-    ensures { MainRow (shape_of shape) (alone_of code) result.0 }
-{
-    let f = shape.flag();
-    match code {
-        0 | 10 => Row::TRUE,
-        4 | 6 => Row::of_cell(f),
-        9 => Row::of_cell(Cell(f.0 + 2)),
-        _ => Row::of_cell(Cell(f.0 + 1)),
-    }
-}
-
 // R17, R19: adds the main row of an instruction that stands alone; END's is INIT's.
-pub fn row_alone(shape: Shape, code: u8, rows: &mut [u64], table: Table) -> Added
-    requires given { Given shape rows.old table }
-    requires code_bound { code ≤ 10 }
-    ensures { Made (cells (shape_of shape)) rows.old table (main_of (shape_of shape) (alone_of code)) result rows.new }
+pub fn row_alone(shape: Shape, code: AloneCode, table: &mut Table) -> Result<Row, Refusal>
+    requires { Given shape table.old }
+    ensures kept { Kept table.old table.new }
+    ensures made { Made (cells (shape_of shape)) table.old (main_of (shape_of shape) (alone_of code)) result table.new }
 {
     let f = shape.flag();
     let x = Row::of_cell(f);
-    if code == 1 {
-        return add(rows, table, Node::Not(x));
-    }
     let y = Row::of_cell(Cell(f.0 + 1));
-    if code == 2 {
-        return add(rows, table, Node::Two(true, x, y));
-    }
-    if code == 3 {
-        return add(rows, table, Node::Two(false, x, y));
-    }
-    Added {
-        row: row_moved(shape, code),
-        table: table,
+    match code {
+        AloneCode::Init | AloneCode::End => Ok(Row::TRUE),
+        AloneCode::Not => add(table, Node::Not(x)),
+        AloneCode::Tand => add(table, Node::Two(true, x, y)),
+        AloneCode::Tor => add(table, Node::Two(false, x, y)),
+        AloneCode::Push | AloneCode::Drop => Ok(x),
+        AloneCode::Pop | AloneCode::Dup | AloneCode::Fswp => Ok(y),
+        AloneCode::Eswp => Ok(Row::of_cell(Cell(f.0 + 2))),
     }
 }
 
@@ -59,56 +43,50 @@ pub fn row_alone(shape: Shape, code: u8, rows: &mut [u64], table: Table) -> Adde
 pub fn row_value(
     file: &[u8],
     shape: Shape,
-    code: u8,
+    code: ValueCode,
     at: usize,
-    rows: &mut [u64],
-    table: Table,
-) -> Added
-    requires given { Given shape rows.old table }
-    requires le_code { (16 ≤ code) × (code < 20) × (at ≤ length file.now) × Legible file.now (vars (shape_of shape)) (at + 64) at }
-    ensures { (x : Read Exp) → Reads file.now (vars (shape_of shape)) (at + 64) at x
-        → Made (cells (shape_of shape)) rows.old table (main_of (shape_of shape) (on_expr code x.got)) result rows.new }
+    table: &mut Table,
+) -> Result<Row, Refusal>
+    requires given { Given shape table.old }
+    requires expression { (at ≤ length file.now) × Legible file.now (vars (shape_of shape)) (at + 64) at }
+    ensures kept { Kept table.old table.new }
+    ensures made { (x : Read Exp) → Reads file.now (vars (shape_of shape)) (at + 64) at x
+        → Made (cells (shape_of shape)) table.old (main_of (shape_of shape) (on_expr code x.got)) result table.new }
 {
     let x = Row::of_cell(shape.flag());
-    let grown = add_expression(file, shape.vars(), at + 64, at, rows, table);
-    let added = grown.added;
-    let y = added.row;
-    let after = added.table;
-    if code == 17 {
-        return add(rows, after, Node::Two(true, x, y));
+    let grown = add_expression(file, shape.vars(), at + 64, at, table)?;
+    let y = grown.row;
+    match code {
+        ValueCode::Load | ValueCode::Epush => Ok(y),
+        ValueCode::And => add(table, Node::Two(true, x, y)),
+        ValueCode::Or => add(table, Node::Two(false, x, y)),
     }
-    if code == 18 {
-        return add(rows, after, Node::Two(false, x, y));
-    }
-    added
 }
 
 // R18: adds the main row of an instruction that takes the variable b.
-pub fn row_variable(shape: Shape, code: u8, b: Cell, rows: &mut [u64], table: Table) -> Added
-    requires given { Given shape rows.old table }
-    requires le_code { (32 ≤ code) × (code < 37) × (b.0 < vars (shape_of shape)) }
-    ensures { Made (cells (shape_of shape)) rows.old table (main_of (shape_of shape) (on_variable code b.0)) result
-        rows.new }
+pub fn row_variable(
+    shape: Shape,
+    code: VariableCode,
+    b: Cell,
+    table: &mut Table,
+) -> Result<Row, Refusal>
+    requires given { Given shape table.old }
+    requires variable { b.0 < vars (shape_of shape) }
+    ensures kept { Kept table.old table.new }
+    ensures made { Made (cells (shape_of shape)) table.old (main_of (shape_of shape) (on_variable code b.0)) result table.new }
 {
     let x = Row::of_cell(shape.flag());
     let y = Row::of_cell(b);
-    if code == 32 {
-        return Added {
-            row: x,
-            table: table,
-        };
+    match code {
+        VariableCode::Store => Ok(x),
+        VariableCode::Set => add(table, Node::Two(false, x, y)),
+        VariableCode::Res | VariableCode::Fedge => {
+            let not = add(table, Node::Not(x))?;
+            add(table, Node::Two(true, not, y))
+        }
+        VariableCode::Redge => {
+            let not = add(table, Node::Not(y))?;
+            add(table, Node::Two(true, x, not))
+        }
     }
-    if code == 33 {
-        return add(rows, table, Node::Two(false, x, y));
-    }
-    if code == 35 {
-        let added = add(rows, table, Node::Not(y));
-        let not = added.row;
-        let after = added.table;
-        return add(rows, after, Node::Two(true, x, not));
-    }
-    let added = add(rows, table, Node::Not(x));
-    let not = added.row;
-    let after = added.table;
-    add(rows, after, Node::Two(true, not, y))
 }

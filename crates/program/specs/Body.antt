@@ -1,7 +1,6 @@
 -- Reading a body for the place after it, by the body's parts.
 use Rattle.std.specs.Prelude.{ℕ, suc, ◌+◌, ◌≤◌, ◌<◌, ◌≡◌, refl, Bool, true, false, not, ◌&&◌, List, leb, ltb, length, get_or}
-use Rattle.std.proofs.Common.{sym, ap, ◌∙◌, arith, add-one, le-leb, lt-ltb, le-ltb}
-use Rattle.std.proofs.Math.Decide.{dec_lt}
+use Rattle.std.proofs.Common.{sym, ap, ◌∙◌, arith, le-leb, lt-ltb, le-ltb}
 use Rattle.std.proofs.lemmas.Bool.{lt-leb}
 use Rattle.rules.specs.Verdict.{Verdict, granted, refused}
 use Rattle.rules.specs.Lists.{number_at}
@@ -9,13 +8,15 @@ use Rattle.rules.specs.Edition.{old}
 use Rattle.rules.specs.Shape.{Shape, vars}
 use Rattle.rules.specs.Expr.{read_expr}
 use Rattle.rules.specs.Instr.{plain}
-use Rattle.rules.specs.ProgramFile.{Form, alone, with_expr, with_var, with_label, unknown, codes, form_of, writable, read_body}
-use Rattle.program.specs.Stages.{ends, variable_at, label_at, alone_at, body_read}
+use Rattle.rules.specs.ProgramFile.{writable, read_body}
+use Rattle.program.specs.Stages.{ends, variable_at, label_at, body_read}
 use Rattle.program.specs.Chains.{ends-made, ends-checked}
-use Rattle.program.specs.Codes.{Kinded, kinded}
-use Rattle.reader.specs.Bodies.{taken, body_in, kind_of, alike, in_run}
+use Rattle.reader.specs.Codes.{on_variable, on_label, form, code_in, code_form}
+use Rattle.reader.specs.Bodies.{taken, body_in}
 use Rattle.reader.specs.declared.body.Body.{Body}
-use Rattle.reader.specs.declared.body.Body.TheVariants.{Alone, Value, Variable, Label}
+use Rattle.reader.specs.declared.body.Body.TheVariants.{Alone, Value, Variable, Label, Unknown}
+use Rattle.reader.specs.declared.code.Code.{Code}
+use Rattle.reader.specs.declared.code.Code.TheVariants as C
 
 -- R12, R48: a variable that is to be written.
 module _ (file : List ℕ) (sh : Shape) (q : ℕ) where
@@ -47,52 +48,33 @@ module _ (file : List ℕ) (n i q : ℕ) where
     unfolding label_at
     label_read t = rw (le-ltb (length file) (q + 2) h, ← e, ← w, t)
 
--- R10, R48: a code that is followed by nothing.
-pub alone-unknown : (c p : ℕ) → 10 < c → refused 5 p ≡ alone_at c p
-alone-unknown c p h = rw (lt-ltb 10 c h)
-
-pub alone-known : (c p : ℕ) → c ≤ 10 → granted (p + 1) ≡ alone_at c p
-alone-known c p h = rw (le-ltb 10 c h, add-one)
-
 -- R10 to R13, R48: where the body at p ends.
 abbrev pub end_of : List ℕ → Shape → ℕ → ℕ → ℕ → Body → Verdict ℕ
-end_of file sh n i p (Alone c) = alone_at c p
+end_of file sh n i p (Alone c) = granted (p + 1)
 end_of file sh n i p (Value c q) = ends (read_expr 64 file (vars sh) (p + 65) q)
 end_of file sh n i p (Variable c b) = variable_at file sh (p + 1)
 end_of file sh n i p (Label c l) = label_at file n i (p + 1)
-
--- R10: no code up to 10 is unknown.
-known : (c : ℕ) → kind_of (form_of codes c) ≡ 4 → 10 < c
-unfolding alike form_of
-known c e = elim (dec_lt c 11) [
-  | yes h ↦
-      let z : ◌≡◌ {A = ℕ} 4 0 = sym e ∙ in_run 0 0 11 c refl (omega arith) h in
-      absurd (omega arith)
-  | no h ↦ omega arith
-]
+end_of file sh n i p Unknown = refused 5 p
 
 pub body_ends : (file : List ℕ) (sh : Shape) (n i p : ℕ) → ends (body_read file sh n i p) ≡ end_of file sh n i p (body_in file p)
 unfolding body_in variable_at label_at
-body_ends file sh n i p = go (form_of codes c) (kinded c) (known c)
+body_ends file sh n i p = rw (← code_form (get_or file p 0)) (go (code_in (get_or file p 0)))
   where
-    c : ℕ
-    c = get_or file p 0
-
     one : p + 1 ≡ suc p
     one = omega arith
 
-    go : (m : Form) → Kinded c m → (kind_of m ≡ 4 → 10 < c) → ends (read_body old file sh n i p m) ≡ end_of file sh n i p (taken m file p)
-    go (alone x) (a, b, d) k = rw (le-ltb 10 c a)
-    go (with_expr g) a k =
+    go : (k : Code) → ends (read_body old file sh n i p (form k)) ≡ end_of file sh n i p (taken k file p)
+    go (C.Alone c) = ap granted (sym one)
+    go (C.Value c) =
         let q : p + 65 ≡ suc p + 64 = omega arith in
         rw (one, q) (ends-made (read_expr 64 file (vars sh) (suc p + 64) (suc p)) _)
-    go (with_var g) a k =
+    go (C.Variable c) =
         let b = get_or file (suc p) 0 in
-        rw one (ends-checked (leb (length file) (suc p)) (not (writable sh b)) 1 (length file) 7 (suc p) (suc p + 1) (plain (g b)))
-    go (with_label g) a k =
+        rw one (ends-checked (leb (length file) (suc p)) (not (writable sh b)) 1 (length file) 7 (suc p) (suc p + 1) (plain (on_variable c b)))
+    go (C.Label c) =
         let l = number_at 2 file (suc p) in
-        rw one (ends-checked (ltb (length file) (suc p + 2)) (not (ltb i l && ltb l n)) 1 (length file) 8 (suc p) (suc p + 2) (g l))
-    go unknown a k = alone-unknown c p (k refl)
+        rw one (ends-checked (ltb (length file) (suc p + 2)) (not (ltb i l && ltb l n)) 1 (length file) 8 (suc p) (suc p + 2) (on_label c l))
+    go C.Unknown = refl
 
 -- R10, R48: so a body with the parts b ends.
 pub found : (file : List ℕ) (sh : Shape) (n i p : ℕ) (b : Body) → b ≡ body_in file p → {r : Verdict ℕ} → r ≡ end_of file sh n i p b

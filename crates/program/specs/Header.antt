@@ -1,16 +1,13 @@
 -- Checking a shape and reading a header: a law for each answer.
-use Rattle.std.specs.Prelude.{ℕ, ◌≤◌, ◌<◌, ◌≡◌, Bool, true, false, not, ◌&&◌, List, length, get_or, leb}
+use Rattle.std.specs.Prelude.{ℕ, Ok, Err, ◌≤◌, ◌<◌, ◌≡◌, Bool, true, false, not, ◌&&◌, List, length, get_or, leb}
 use Rattle.std.proofs.Common.{add-zero}
 use borrow.Author.Tests.{lt-ltb, le-ltb, eq-eqb, ne_eqb}
 use Rattle.rules.specs.Verdict.{granted, refused}
 use Rattle.rules.specs.Lists.{number_at}
 use Rattle.rules.specs.Edition.{old}
 use Rattle.rules.specs.Shape.{Shape, vars, check_shape, shape_at, read_header}
-use Rattle.base.specs.Answers.{shape_of, refused_by}
+use Rattle.base.specs.Answers.{Answer, shape_of, refused_by, verdict_of}
 use Rattle.base.specs.declared.refusal.Refusal.{Refusal}
-use Rattle.program.specs.declared.Checked.{Checked}
-use Rattle.program.specs.declared.Checked.TheVariants.{Granted, Refused}
-use Rattle.program.specs.Stages.{checked_verdict}
 
 -- R1, R46: the depth, then the number of variables.
 module _ (sh : Shape) (d : Bool) (e : d ≡ (leb 2 sh.depth && leb sh.depth 16)) where
@@ -41,12 +38,12 @@ module _ (file : List ℕ) (mark : ℕ) where
     unfolding read_header
     header_other m = rw (le-ltb (length file) 7 l, ne_eqb (get_or file 0 0) mark m)
 
-    module _ (m : get_or file 0 0 ≡ mark) (sh : Shape) (e : sh ≡ shape_at old file) (r : Checked)
-        (c : checked_verdict r ≡ check_shape old sh) where
-      pub header_read : r ≡ Granted → granted sh ≡ read_header old mark file
+    module _ (m : get_or file 0 0 ≡ mark) (sh : Shape) (e : sh ≡ shape_at old file) (r : Answer (Unit {0}))
+        (c : verdict_of r ≡ check_shape old sh) where
+      pub header_read : r ≡ Ok tt → granted sh ≡ read_header old mark file
       unfolding read_header
       header_read g = rw (le-ltb (length file) 7 l, eq-eqb (get_or file 0 0) mark m, ← e, ← c, g)
 
-      pub header_refused : (x : Refusal) → r ≡ Refused x → refused_by x ≡ read_header old mark file
+      pub header_refused : (x : Refusal) → r ≡ Err x → refused_by x ≡ read_header old mark file
       unfolding read_header
       header_refused x g = rw (le-ltb (length file) 7 l, eq-eqb (get_or file 0 0) mark m, ← e, ← c, g)

@@ -1,7 +1,6 @@
 -- The last instruction is END exactly if its body is END's.
-use Rattle.std.specs.Prelude.{ℕ, zero, suc, ◌+◌, ◌-◌, ◌≤◌, ◌<◌, ◌≡◌, refl, false, List, get_or}
-use Rattle.std.proofs.Common.{sym, ap, ◌∙◌, arith, zero-add, eq-eqb, ne_eqb}
-use Rattle.std.proofs.Math.Decide.{dec_lt}
+use Rattle.std.specs.Prelude.{ℕ, ◌-◌, ◌≤◌, ◌≡◌, refl, false, List, get_or}
+use Rattle.std.proofs.Common.{ap, ◌∙◌, arith, zero-add}
 use Rattle.rules.specs.Edition.{old}
 use Rattle.rules.specs.Shape.{Shape, vars}
 use Rattle.rules.specs.Expr.{Read}
@@ -10,34 +9,32 @@ use Rattle.rules.specs.ProgramFile.{is_end, read_instrs}
 use Rattle.laws.specs.Verdict.{Grants, grants-map}
 use Rattle.laws.specs.Decode.{instrs_stand}
 use Rattle.reader.specs.declared.body.Body.{Body}
-use Rattle.reader.specs.declared.body.Body.TheVariants.{Alone, Value, Variable, Label}
+use Rattle.reader.specs.declared.body.Body.TheVariants.{Alone, Value, Variable, Label, Unknown}
+use Rattle.reader.specs.declared.code.AloneCode.{AloneCode}
+use Rattle.reader.specs.declared.code.AloneCode.TheVariants.{End}
+use Rattle.reader.specs.declared.code.LabelCode.{LabelCode}
+use Rattle.reader.specs.declared.code.LabelCode.TheVariants.{Jp, Jpc, Js, Jsc}
+use Rattle.reader.specs.Codes.{on_alone, on_label}
 use Rattle.program.specs.Stages.{instr_in, is_end_body, last_at}
-use Rattle.program.specs.Codes.{on_label, Tells, body_tells}
-
--- R10: no code with a label is END's.
-label_goes_on : (c l : ℕ) → 48 ≤ c → c < 52 → is_end (on_label c l) ≡ false
-label_goes_on c l h k =
-    let q : c ≡ 48 + (c - 48) = omega arith in
-    rw q (go (c - 48) (omega arith))
-  where
-    go : (j : ℕ) → j < 4 → is_end (on_label (48 + j) l) ≡ false
-    go zero p = refl
-    go (suc zero) p = refl
-    go (suc (suc zero)) p = refl
-    go (suc (suc (suc zero))) p = refl
-    go (suc (suc (suc (suc j)))) p = absurd (omega arith)
+use Rattle.program.specs.Codes.{Tells, body_tells}
 
 -- R10, R14: an instruction is END exactly if its body is END's.
+alone_ends : (c : AloneCode) → is_end (on_alone c) ≡ is_end_body (Alone c)
+alone_ends End = refl
+alone_ends c = refl
+
+label_goes_on : (c : LabelCode) (l : ℕ) → is_end (on_label c l) ≡ false
+label_goes_on Jp l = refl
+label_goes_on Jpc l = refl
+label_goes_on Js l = refl
+label_goes_on Jsc l = refl
+
 body_ends : (file : List ℕ) (v n i : ℕ) (x : Instr) (b : Body) → Tells file v n i x b → is_end x ≡ is_end_body b
-body_ends file v n i x (Alone c) t = elim (dec_lt c 10) [
-  | yes h ↦ ap is_end (t.1 h) ∙ sym (ne_eqb c 10 (λ q. absurd (omega arith)))
-  | no h ↦
-      let q : c ≡ 10 = omega (arith, t.0) in
-      ap is_end (t.2 q) ∙ sym (eq-eqb c 10 q)
-]
-body_ends file v n i x (Value c p) t = ap is_end t.5
-body_ends file v n i x (Variable c b) t = ap is_end t.3
-body_ends file v n i x (Label c l) t = ap is_end t.4 ∙ label_goes_on c l.0 t.0 t.1
+body_ends file v n i x (Alone c) t = ap is_end t ∙ alone_ends c
+body_ends file v n i x (Value c p) t = ap is_end t.3
+body_ends file v n i x (Variable c b) t = ap is_end t.1
+body_ends file v n i x (Label c l) t = ap is_end t.2 ∙ label_goes_on c l.0
+body_ends file v n i x Unknown t = absurd t
 
 -- R14: of n instructions the last is END exactly if its body is END's.
 pub record Closing (file : List ℕ) (n : ℕ) (r : Read (List Instr)) : Type 0 where

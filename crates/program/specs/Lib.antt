@@ -11,3 +11,5 @@ pub mod Last
 pub mod Rest
 pub mod Check
 pub mod Standing
+pub mod Accepted
+pub mod Programs

@@ -1,5 +1,5 @@
 -- What follows the header of a program file: a law for each answer.
-use Rattle.std.specs.Prelude.{ℕ, ◌+◌, ◌*◌, ◌-◌, ◌≤◌, ◌<◌, refl, Bool, true, false, not, ◌&&◌, List, length, get_or, leb, ltb}
+use Rattle.std.specs.Prelude.{ℕ, Ok, Err, ◌+◌, ◌*◌, ◌-◌, ◌≤◌, ◌<◌, refl, Bool, true, false, not, ◌&&◌, List, length, get_or, leb, ltb}
 use Rattle.std.proofs.Math.Path.{◌≡◌, sym}
 use Rattle.std.proofs.Common.{◌∙◌, arith}
 use borrow.Author.Tests.{lt-ltb, le-ltb}
@@ -12,13 +12,10 @@ use Rattle.rules.specs.Instr.{Instr, END}
 use Rattle.rules.specs.ProgramFile.{Program, is_end}
 use Rattle.rules.specs.ProgramFile.{entry_at, read_instrs}
 use Rattle.laws.specs.Verdict.{Grants, grants, within}
-use Rattle.base.specs.Answers.{refused_by}
+use Rattle.base.specs.Answers.{Answer, refused_by, verdict_of}
 use Rattle.base.specs.declared.refusal.Refusal.{Refusal}
 use Rattle.reader.specs.Bodies.{body_in}
-use Rattle.program.specs.declared.Checked.{Checked}
-use Rattle.program.specs.declared.expr.Walked.{Walked}
-use Rattle.program.specs.declared.expr.Walked.TheVariants.{To, Refused}
-use Rattle.program.specs.Stages.{checked_verdict, walked_verdict, ends, Contents, instr_in, is_end_body, last_at, closed, read_rest, instrs_of}
+use Rattle.program.specs.Stages.{ends, Contents, instr_in, is_end_body, last_at, closed, read_rest, instrs_of}
 use Rattle.program.specs.Last.{Closing, instrs_closing}
 
 -- Two checks that hand back nothing.
@@ -89,15 +86,15 @@ module _ (file : List ℕ) (sh : Shape) (n : ℕ) (d : Bool) (e : n ≡ number_a
           let w = within 1 n n 512 (rw f at t) in
           record { some = w.0; most = w.1; whole = l }
 
-      module _ (r : Walked) (g : walked_verdict r ≡ ends (read_instrs old file sh n n (entry_at old n))) where
-        pub rest-refused : (x : Refusal) → r ≡ Refused x → refused_by x ≡ instrs_of file sh
+      module _ (r : Answer ℕ) (g : verdict_of r ≡ ends (read_instrs old file sh n n (entry_at old n))) where
+        pub rest-refused : (x : Refusal) → r ≡ Err x → refused_by x ≡ instrs_of file sh
         unfolding read_rest
         rest-refused x z =
             rw (← e, ← f, t, le-ltb (length file) (7 + 2 * n) l)
             (sym (finish-refused file sh n (read_instrs old file sh n n (entry_at old n)) _ _ (sym (rw z at g))))
 
-        module _ (q : ℕ) (z : r ≡ To q) where
-          pub rest-closed : (k : Checked) → checked_verdict k ≡ closed file n q → checked_verdict k ≡ instrs_of file sh
+        module _ (q : ℕ) (z : r ≡ Ok q) where
+          pub rest-closed : (k : Answer (Unit {0})) → verdict_of k ≡ closed file n q → verdict_of k ≡ instrs_of file sh
           unfolding read_rest
           rest-closed k c =
               let m = instrs_closing file sh n (entry_at old n) contents.some in

@@ -1,5 +1,5 @@
 -- What the answers of the code mean in the words of the rules, and the stages of reading a program file.
-use Rattle.std.specs.Prelude.{ℕ, suc, ◌+◌, ◌-◌, ◌≤◌, Bool, false, not, ◌&&◌, List, length, get_or, leb, ltb, eqb}
+use Rattle.std.specs.Prelude.{ℕ, ◌+◌, ◌-◌, ◌≤◌, Bool, true, false, not, ◌&&◌, List, length, get_or, leb, ltb}
 use Rattle.rules.specs.Verdict.{Verdict, granted, refused, refuse_if, ◌>>=◌}
 use Rattle.rules.specs.Lists.{number_at}
 use Rattle.rules.specs.Edition.{old, count_at, most_instrs}
@@ -8,37 +8,22 @@ use Rattle.rules.specs.Expr.{Read, Announced, leaf, one, two, bad}
 use Rattle.rules.specs.Instr.{Instr, END}
 use Rattle.rules.specs.ProgramFile.{Program, codes, form_of, writable, is_end}
 use Rattle.rules.specs.ProgramFile.{read_body, entry_at, body_at, read_instrs, read_program}
-use Rattle.base.specs.Answers.{shape_of, refused_by}
+use Rattle.base.specs.Answers.{Answer, shape_of, verdict_of}
+use Rattle.base.specs.declared.shape.Shape as B
 use Rattle.reader.specs.Bodies.{body_in}
 use Rattle.reader.specs.declared.body.Body.{Body}
-use Rattle.reader.specs.declared.body.Body.TheVariants.{Alone, Value, Variable, Label}
-use Rattle.program.specs.declared.Checked.{Checked}
-use Rattle.program.specs.declared.Checked.TheVariants as C
-use Rattle.program.specs.declared.header.Headed.{Headed}
-use Rattle.program.specs.declared.header.Headed.TheVariants as H
-use Rattle.program.specs.declared.expr.Walked.{Walked}
-use Rattle.program.specs.declared.expr.Walked.TheVariants as W
+use Rattle.reader.specs.declared.body.Body.TheVariants.{Alone}
+use Rattle.reader.specs.declared.code.AloneCode.TheVariants.{End}
 use Rattle.program.specs.declared.expr.Operands.{Operands}
 use Rattle.program.specs.declared.expr.Operands.TheVariants.{Zero, One, Two, Bad}
-
--- R46, R65: granted with nothing more, or the refusal.
-abbrev pub checked_verdict : Checked → Verdict (Unit {0})
-checked_verdict C.Granted = granted tt
-checked_verdict (C.Refused x) = refused_by x
 
 -- R65: checking a program file is reading it, and handing nothing back.
 abbrev pub check_of : List ℕ → Verdict (Unit {0})
 check_of file = read_program old file >>= λ P. granted tt
 
 -- R7: the shape of a header, or the refusal.
-abbrev pub head_verdict : Headed → Verdict Shape
-head_verdict (H.With s) = granted (shape_of s)
-head_verdict (H.Refused x) = refused_by x
-
--- The place after what was read, or the refusal.
-abbrev pub walked_verdict : Walked → Verdict ℕ
-walked_verdict (W.To p) = granted p
-walked_verdict (W.Refused x) = refused_by x
+abbrev pub header_verdict : Answer B.Shape → Verdict Shape
+header_verdict r = verdict_of r >>= λ s. granted (shape_of s)
 
 -- Of what was read, only the place after it.
 abbrev pub ends : {A : Type 0} → Verdict (Read A) → Verdict ℕ
@@ -51,10 +36,6 @@ operands_of (leaf x) = Zero
 operands_of one = One
 operands_of (two o) = Two
 operands_of bad = Bad
-
--- R10, R48: a code at p that is followed by nothing.
-abbrev pub alone_at : ℕ → ℕ → Verdict ℕ
-alone_at c p = refuse_if (ltb 10 c) 5 p >>= λ _. granted (suc p)
 
 -- R12, R48: a variable to write that must stand at q.
 unfoldable pub variable_at : List ℕ → Shape → ℕ → Verdict ℕ
@@ -81,10 +62,8 @@ instr_in file n i = body_in file (body_at old file n i)
 
 -- R14: whether a body is END's.
 abbrev pub is_end_body : Body → Bool
-is_end_body (Alone c) = eqb c 10
-is_end_body (Value c p) = false
-is_end_body (Variable c b) = false
-is_end_body (Label c l) = false
+is_end_body (Alone End) = true
+is_end_body b = false
 
 -- R8, R9: no body begins here or later: a header, the entries of 512 instructions, the largest entry.
 abbrev pub farthest : ℕ

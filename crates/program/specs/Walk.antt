@@ -1,6 +1,6 @@
 -- Reading the instructions one after another for the place after each: a law for each answer, and for each turn of the walk.
 use Prim.Native.Nat.{ℕ, zero, suc, ◌+◌, ◌-◌, ◌≤◌, ◌<◌}
-use Rattle.std.specs.Prelude.{◌≡◌, List, length, get_or}
+use Rattle.std.specs.Prelude.{◌≡◌, Ok, Err, List, length, get_or}
 use native.Mathlib.Omega.{arith}
 use Rattle.std.proofs.Common.{add-one}
 use borrow.Author.Tests.{eq-eqb, ne_eqb, le-leb, lt-leb}
@@ -8,11 +8,9 @@ use Rattle.rules.specs.Verdict.{granted, refused, ◌>>=◌}
 use Rattle.rules.specs.Edition.{old}
 use Rattle.rules.specs.Shape.{Shape}
 use Rattle.rules.specs.ProgramFile.{codes, form_of, entry_at, body_at, read_body, read_instr, read_instrs}
-use Rattle.base.specs.Answers.{refused_by}
+use Rattle.base.specs.Answers.{Answer, refused_by, verdict_of}
 use Rattle.base.specs.declared.refusal.Refusal.{Refusal}
-use Rattle.program.specs.declared.expr.Walked.{Walked}
-use Rattle.program.specs.declared.expr.Walked.TheVariants.{To, Refused}
-use Rattle.program.specs.Stages.{walked_verdict, ends}
+use Rattle.program.specs.Stages.{ends}
 use Rattle.program.specs.Chains.{ends_then, ends-made}
 
 -- R9, R48: instruction i of n, whose body must stand at p; b is where its entry leads.
@@ -26,9 +24,9 @@ module _ (file : List ℕ) (sh : Shape) (n i p b : ℕ) (e : b ≡ body_at old f
     unfolding read_instr
     instr_short l = rw (← e, eq-eqb b p h, le-leb (length file) p l)
 
-    pub instr_read : (r : Walked) → p < length file
-        → walked_verdict r ≡ ends (read_body old file sh n i p (form_of codes (get_or file p 0)))
-        → walked_verdict r ≡ ends (read_instr old file sh n i p)
+    pub instr_read : (r : Answer ℕ) → p < length file
+        → verdict_of r ≡ ends (read_body old file sh n i p (form_of codes (get_or file p 0)))
+        → verdict_of r ≡ ends (read_instr old file sh n i p)
     unfolding read_instr
     instr_read r l w = rw (← e, eq-eqb b p h, lt-leb (length file) p l) w
 
@@ -63,9 +61,9 @@ module _ (file : List ℕ) (sh : Shape) (n : ℕ) where
         let z : n - i ≡ zero = omega arith in
         rw z at s.same
 
-    module _ (h : i < n) (r : Walked) (e : walked_verdict r ≡ ends (read_instr old file sh n i p)) where
-      pub walk_step : (q : ℕ) → r ≡ To q → Reached file sh n (i + 1) q
+    module _ (h : i < n) (r : Answer ℕ) (e : verdict_of r ≡ ends (read_instr old file sh n i p)) where
+      pub walk_step : (q : ℕ) → r ≡ Ok q → Reached file sh n (i + 1) q
       walk_step q z = record { most = omega arith; same = rw (add-one, ← s.same, turn i p h, ← e, z) }
 
-      pub walk_refused : (x : Refusal) → r ≡ Refused x → refused_by x ≡ ends (read_instrs old file sh n n (entry_at old n))
+      pub walk_refused : (x : Refusal) → r ≡ Err x → refused_by x ≡ ends (read_instrs old file sh n n (entry_at old n))
       walk_refused x z = rw (← s.same, turn i p h, ← e, z)

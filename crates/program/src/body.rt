@@ -3,10 +3,10 @@ ghost use Rattle.std.specs.Prelude.{◌≡◌, ◌&&◌, ◌≤◌, ◌<◌, ltb
 ghost use Rattle.rules.specs.Edition.{old};
 ghost use Rattle.rules.specs.Lists.{number_at};
 ghost use Rattle.rules.specs.ProgramFile.{writable, entry_at, body_at};
-ghost use Rattle.base.specs.Answers.{shape_of};
-ghost use Rattle.program.specs.Stages.{walked_verdict, ends, variable_at, label_at, alone_at, body_read, instr_in, farthest};
+ghost use Rattle.base.specs.Answers.{shape_of, verdict_of};
+ghost use Rattle.program.specs.Stages.{ends, variable_at, label_at, body_read, instr_in, farthest};
 
-use crate::expr::{Walked, read_expr};
+use crate::expr::read_expr;
 use base::bytes::word;
 use base::kinds::{Cell, Instr};
 use base::refusal::Refusal;
@@ -21,17 +21,17 @@ fn may_write(shape: Shape, b: Cell) -> bool
 }
 
 // R12, R48: the variable b, which must stand at a place, is there (1) and may be written (7).
-fn check_variable(file: &[u8], shape: Shape, b: Cell, at: usize) -> Walked
+fn check_variable(file: &[u8], shape: Shape, b: Cell, at: usize) -> Result<usize, Refusal>
     requires { b.0 ≡ get_or file.now at 0 }
-    ensures { walked_verdict result ≡ variable_at file.now (shape_of shape) at }
+    ensures { verdict_of result ≡ variable_at file.now (shape_of shape) at }
 {
     if file.len() <= at {
-        return Walked::Refused(Refusal::EndsEarly(file.len()));
+        return Err(Refusal::EndsEarly(file.len()));
     }
     if !may_write(shape, b) {
-        return Walked::Refused(Refusal::NotWritable(at));
+        return Err(Refusal::NotWritable(at));
     }
-    Walked::To(at + 1)
+    Ok(at + 1)
 }
 
 // R13: whether instruction i of n may jump to l: it comes later, and is one of the n.
@@ -42,40 +42,30 @@ fn may_jump(i: Instr, l: Instr, n: usize) -> bool
 }
 
 // R13, R48: the label l, which must stand at a place, is whole (1) and leads to a later instruction (8).
-fn check_label(file: &[u8], n: usize, i: Instr, l: Instr, at: usize) -> Walked
+fn check_label(file: &[u8], n: usize, i: Instr, l: Instr, at: usize) -> Result<usize, Refusal>
     requires { (l.0 ≡ number_at 2 file.now at) × (at ≤ farthest) }
-    ensures { walked_verdict result ≡ label_at file.now n i.0 at }
+    ensures { verdict_of result ≡ label_at file.now n i.0 at }
 {
     if file.len() < at + 2 {
-        return Walked::Refused(Refusal::EndsEarly(file.len()));
+        return Err(Refusal::EndsEarly(file.len()));
     }
     if !may_jump(i, l, n) {
-        return Walked::Refused(Refusal::BadLabel(at));
+        return Err(Refusal::BadLabel(at));
     }
-    Walked::To(at + 2)
-}
-
-// R10, R48: a code at a place that is followed by nothing is known (5).
-fn check_alone(code: u8, at: usize) -> Walked
-    requires { at < farthest }
-    ensures { walked_verdict result ≡ alone_at code at }
-{
-    if 10 < code {
-        return Walked::Refused(Refusal::UnknownCode(at));
-    }
-    Walked::To(at + 1)
+    Ok(at + 2)
 }
 
 // R10, R48: the body of instruction i of n at a place: its code is known (5), and then its operand.
-pub fn read_body(file: &[u8], shape: Shape, n: usize, i: Instr, at: usize) -> Walked
+pub fn read_body(file: &[u8], shape: Shape, n: usize, i: Instr, at: usize) -> Result<usize, Refusal>
     requires { at < farthest }
-    ensures { walked_verdict result ≡ ends (body_read file.now (shape_of shape) n i.0 at) }
+    ensures { verdict_of result ≡ ends (body_read file.now (shape_of shape) n i.0 at) }
 {
     match decode(file, at) {
-        Body::Alone(code) => check_alone(code, at),
+        Body::Alone(_) => Ok(at + 1),
         Body::Value(_, from) => read_expr(file, shape.vars(), at + 65, from),
         Body::Variable(_, b) => check_variable(file, shape, b, at + 1),
         Body::Label(_, l) => check_label(file, n, i, l, at + 1),
+        Body::Unknown => Err(Refusal::UnknownCode(at)),
     }
 }
 

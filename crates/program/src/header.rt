@@ -2,19 +2,11 @@
 ghost use Rattle.std.specs.Prelude.{◌≡◌, ◌&&◌, ◌≤◌, leb, length};
 ghost use Rattle.rules.specs.Edition.{old};
 ghost use Rattle.rules.specs.Shape.{check_shape, shape_at, read_header};
-ghost use Rattle.base.specs.Answers.{shape_of};
-ghost use Rattle.program.specs.Stages.{checked_verdict, head_verdict};
+ghost use Rattle.base.specs.Answers.{shape_of, verdict_of};
+ghost use Rattle.program.specs.Stages.{header_verdict};
 
-use crate::Checked;
 use base::refusal::Refusal;
 use base::shape::Shape;
-
-// The shape that a header gives, or what is wrong with the header.
-#[derive(Clone, Copy)]
-pub enum Headed {
-    With(Shape),
-    Refused(Refusal),
-}
 
 // Whether a number lies between two bounds or on one of them.
 pub fn within(low: usize, x: usize, high: usize) -> bool
@@ -24,23 +16,16 @@ pub fn within(low: usize, x: usize, high: usize) -> bool
 }
 
 // R1, R46: the depth is 2 to 16 (3 at 1), and there are 1 to 200 variables (3 at 2).
-pub fn check_shape(shape: Shape) -> Checked
-    ensures { checked_verdict result ≡ check_shape old (shape_of shape) }
+pub fn check_shape(shape: Shape) -> Result<(), Refusal>
+    ensures { verdict_of result ≡ check_shape old (shape_of shape) }
 {
     if !within(2, shape.depth as usize, 16) {
-        return Checked::Refused(Refusal::OutOfRange(1));
+        return Err(Refusal::OutOfRange(1));
     }
     if !within(1, shape.vars(), 200) {
-        return Checked::Refused(Refusal::OutOfRange(2));
+        return Err(Refusal::OutOfRange(2));
     }
-    Checked::Granted
-}
-
-// R5: a count of one byte.
-fn count(b: u8) -> u16
-    ensures { result ≡ b }
-{
-    b as u16
+    Ok(())
 }
 
 // R7: the shape that a header gives.
@@ -49,26 +34,24 @@ pub fn shape_at(file: &[u8]) -> Shape
     ensures { shape_of result ≡ shape_at old file.now }
 {
     Shape {
-        depth: count(file[1]),
-        inputs: count(file[2]),
-        outputs: count(file[3]),
-        memory: count(file[4]),
+        depth: file[1] as u16,
+        inputs: file[2] as u16,
+        outputs: file[3] as u16,
+        memory: file[4] as u16,
     }
 }
 
 // R7, R48: a header is whole (1), begins with the mark (2), and gives a shape within the limits (3).
-pub fn read_header(file: &[u8], mark: u8) -> Headed
-    ensures { head_verdict result ≡ read_header old mark file.now }
+pub fn read_header(file: &[u8], mark: u8) -> Result<Shape, Refusal>
+    ensures { header_verdict result ≡ read_header old mark file.now }
 {
     if file.len() < 7 {
-        return Headed::Refused(Refusal::EndsEarly(file.len()));
+        return Err(Refusal::EndsEarly(file.len()));
     }
     if file[0] != mark {
-        return Headed::Refused(Refusal::WrongMark);
+        return Err(Refusal::WrongMark);
     }
     let shape = shape_at(file);
-    match check_shape(shape) {
-        Checked::Granted => Headed::With(shape),
-        Checked::Refused(x) => Headed::Refused(x),
-    }
+    check_shape(shape)?;
+    Ok(shape)
 }

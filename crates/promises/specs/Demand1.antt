@@ -1,5 +1,5 @@
 -- Demand 1: every input gets an answer: a result, or a refusal with a number and a place. Room is refused exactly where the rules need more.
-use Rattle.std.specs.Prelude.{ℕ, ◌≤◌, ◌<◌, ◌≡◌, Bool, true, List, length}
+use Rattle.std.specs.Prelude.{ℕ, ◌≤◌, ◌<◌, ◌≡◌, Bool, true, List, length, Ok, Err}
 use Rattle.std.proofs.Common.{sym, ◌∙◌, arith, lt-ltb, le-ltb}
 use Rattle.std.proofs.Math.Decide.{dec_lt}
 use Rattle.rules.specs.Verdict.{Verdict, granted, refused}
@@ -11,89 +11,77 @@ use Rattle.rules.specs.Build.{transfer}
 use Rattle.rules.specs.SetFile.{TransferSet, leaves, write_set, read_set}
 use Rattle.rules.specs.Room.{room, heads_to_build, numbers_to_compose, values_to_evaluate}
 use Rattle.rules.specs.Operations.{check_storage, evaluate_set, set_of, composed, unchanging_set, write_into, finish, scan, build, evaluate, same_shape, compose, blamed, write_unchanging}
-use Rattle.base.specs.Answers.{refused_by}
+use Rattle.base.specs.Answers.{Answer, refused_by, verdict_of}
 use Rattle.base.specs.declared.refusal.Refusal.{Refusal}
-use Rattle.program.specs.Stages.{checked_verdict, check_of}
+use Rattle.program.specs.Stages.{check_of}
 use Rattle.program.specs.Check.{check_only}
-use Rattle.program.specs.declared.Checked.{Checked}
-use Rattle.program.specs.declared.Checked.TheVariants as C
 use Rattle.machine.specs.Scan.{Scans}
 use Rattle.machine.specs.ScanLaws.{scan_only}
-use Rattle.machine.specs.declared.Scanned.{Scanned}
-use Rattle.machine.specs.declared.Scanned.TheVariants as M
 use Rattle.sets.specs.Judging.{set_verdict}
 use Rattle.sets.specs.Answer.{set-refused, check_set_only}
 use Rattle.evaluate.specs.Evaluate.{Evaluates, evaluate_only}
-use Rattle.evaluate.specs.declared.values.Evaluated.{Evaluated}
-use Rattle.evaluate.specs.declared.values.Evaluated.TheVariants as E
 use Rattle.writer.specs.Writes.{Writes, writes_only}
-use Rattle.writer.specs.declared.Written.{Written}
-use Rattle.writer.specs.declared.Written.TheVariants as W
-use Rattle.compose.specs.Contract.{Composes, composed_verdict, blames, compose_only}
-use Rattle.compose.specs.declared.Composed.{Composed}
-use Rattle.compose.specs.declared.Composed.TheVariants as P
+use Rattle.compose.specs.Contract.{Composed, Composes, composed_verdict, blames, compose_only}
 use Rattle.build.specs.Contract.{Builds, build_only}
-use Rattle.build.specs.declared.Built.{Built}
-use Rattle.build.specs.declared.Built.TheVariants as B
 use Rattle.promises.specs.Answers.{Wrote, wrote, refused_so, output-kept, storage-kept}
 
 -- ---- every answer is the rules', and the only one; a refusal changes nothing
 
 -- Checking a program (R46 to R48).
-pub program_refused : (file : List ℕ) (x : Refusal) → checked_verdict (C.Refused x) ≡ check_of file → read_program old file ≡ refused_by x
+pub program_refused : (file : List ℕ) (x : Refusal) → verdict_of (Err x) ≡ check_of file → read_program old file ≡ refused_by x
 program_refused file x c = refused_so (read_program old file) _ x c
 
-pub program_one : (file : List ℕ) (a b : Checked) → checked_verdict a ≡ check_of file → checked_verdict b ≡ check_of file → a ≡ b
+pub program_one : (file : List ℕ) (a b : Answer (Unit {0})) → verdict_of a ≡ check_of file → verdict_of b ≡ check_of file → a ≡ b
 program_one = check_only
 
 -- Scanning (R25, R50 to R52).
-pub scan-refused : (file storage : List ℕ) (budget : ℕ) (x : Refusal) (after : List ℕ) → Scans file storage budget (M.Refused x) after
+pub scan-refused : (file storage : List ℕ) (budget : ℕ) (x : Refusal) (after : List ℕ) → Scans file storage budget (Err x) after
     → (scan old file storage budget ≡ refused_by x) × (after ≡ storage)
 scan-refused file storage budget x after c =
     let e = refused_so (scan old file storage budget) _ x c.answer in
     (e, storage-kept (scan old file storage budget) _ x storage after e c.leaves)
 
-pub scan-one : (file storage : List ℕ) (budget : ℕ) (a b : Scanned) (t u : List ℕ) → Scans file storage budget a t
+pub scan-one : (file storage : List ℕ) (budget : ℕ) (a b : Answer ℕ) (t u : List ℕ) → Scans file storage budget a t
     → Scans file storage budget b u → (a ≡ b) × (t ≡ u)
 scan-one = scan_only
 
 -- Building (R51, R52, R54, R55). That rows, numbers and heads are zero after is the contract at `build` itself.
 module _ (file : List ℕ) (rows numbers heads : ℕ) (before after : List ℕ) where
-  pub build-wrote : (n : ℕ) → Builds file rows numbers heads (B.Length n) before after
+  pub build-wrote : (n : ℕ) → Builds file rows numbers heads (Ok n) before after
       → Wrote (build old file rows numbers heads (length before)) n before after
   build-wrote n c = wrote _ n before after c.answers c.output
 
-  pub build-refused : (x : Refusal) → Builds file rows numbers heads (B.Refused x) before after
+  pub build-refused : (x : Refusal) → Builds file rows numbers heads (Err x) before after
       → (build old file rows numbers heads (length before) ≡ refused_by x) × (after ≡ before)
   build-refused x c =
       let e = refused_so (build old file rows numbers heads (length before)) _ x c.answers in
       (e, output-kept _ x before after e c.output)
 
-pub build-one : (file : List ℕ) (rows numbers heads : ℕ) (a b : Built) (before t u : List ℕ)
+pub build-one : (file : List ℕ) (rows numbers heads : ℕ) (a b : Answer ℕ) (before t u : List ℕ)
     → Builds file rows numbers heads a before t → Builds file rows numbers heads b before u → (a ≡ b) × (t ≡ u)
 build-one = build_only
 
 -- Checking a set (R49).
-pub set-refused_so : (file : List ℕ) (x : Refusal) → checked_verdict (C.Refused x) ≡ set_verdict file → read_set old file ≡ refused_by x
+pub set-refused_so : (file : List ℕ) (x : Refusal) → verdict_of (Err x) ≡ set_verdict file → read_set old file ≡ refused_by x
 set-refused_so file x c = set-refused file _ _ (sym c)
 
-pub set-one : (file : List ℕ) (a b : Checked) → checked_verdict a ≡ set_verdict file → checked_verdict b ≡ set_verdict file → a ≡ b
+pub set-one : (file : List ℕ) (a b : Answer (Unit {0})) → verdict_of a ≡ set_verdict file → verdict_of b ≡ set_verdict file → a ≡ b
 set-one = check_set_only
 
 -- Evaluating (R51, R52, R57). That the values are zero after is the contract at `evaluate` itself.
-pub evaluate-refused : (file storage : List ℕ) (lent : ℕ) (x : Refusal) (after : List ℕ) → Evaluates file storage lent (E.Refused x) after
+pub evaluate-refused : (file storage : List ℕ) (lent : ℕ) (x : Refusal) (after : List ℕ) → Evaluates file storage lent (Err x) after
     → (evaluate old file storage lent ≡ refused_by x) × (after ≡ storage)
 evaluate-refused file storage lent x after c =
     let e = refused_so (evaluate old file storage lent) _ x c.answer in
     (e, storage-kept (evaluate old file storage lent) _ x storage after e c.leaves)
 
-pub evaluate-one : (file storage : List ℕ) (lent : ℕ) (a b : Evaluated) (t u : List ℕ) → Evaluates file storage lent a t
+pub evaluate-one : (file storage : List ℕ) (lent : ℕ) (a b : Answer (Unit {0})) (t u : List ℕ) → Evaluates file storage lent a t
     → Evaluates file storage lent b u → (a ≡ b) × (t ≡ u)
 evaluate-one = evaluate_only
 
 -- Composing (R51, R52, R54, R56). That rows and numbers are zero after is the contract at `compose` itself.
 module _ (first second : List ℕ) (rows numbers : ℕ) (before after : List ℕ) where
-  pub compose-wrote : (n : ℕ) → Composes first second rows numbers (P.Length n) before after
+  pub compose-wrote : (n : ℕ) → Composes first second rows numbers (Ok n) before after
       → Wrote (compose old first second rows numbers (length before)) n before after
   compose-wrote n c = wrote _ n before after c.answers c.output
 
@@ -110,17 +98,17 @@ compose-one = compose_only
 
 -- Writing the unchanging set (R52, R58, R59).
 module _ (sh : Shape) (before after : List ℕ) where
-  pub unchanging-wrote : (n : ℕ) → Writes (write_unchanging old sh (length before)) (W.Length n) before after
+  pub unchanging-wrote : (n : ℕ) → Writes (write_unchanging old sh (length before)) (Ok n) before after
       → Wrote (write_unchanging old sh (length before)) n before after
   unchanging-wrote n c = wrote _ n before after c.answer c.output
 
-  pub unchanging-refused : (x : Refusal) → Writes (write_unchanging old sh (length before)) (W.Refused x) before after
+  pub unchanging-refused : (x : Refusal) → Writes (write_unchanging old sh (length before)) (Err x) before after
       → (write_unchanging old sh (length before) ≡ refused_by x) × (after ≡ before)
   unchanging-refused x c =
       let e = refused_so (write_unchanging old sh (length before)) _ x c.answer in
       (e, output-kept _ x before after e c.output)
 
-pub unchanging-one : (v : Verdict (List ℕ)) (a b : Written) (before t u : List ℕ) → Writes v a before t → Writes v b before u
+pub unchanging-one : (v : Verdict (List ℕ)) (a b : Answer ℕ) (before t u : List ℕ) → Writes v a before t → Writes v b before u
     → (a ≡ b) × (t ≡ u)
 unchanging-one = writes_only
 

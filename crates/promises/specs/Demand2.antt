@@ -1,5 +1,5 @@
 -- Demand 2: the answer is the rules': the table of instructions, the machine's steps, the building rule's set, and one file for a set.
-use Rattle.std.specs.Prelude.{ℕ, ◌<◌, ◌≡◌, Bool, false, ◌||◌, List, [], map, length, get_or, take, eqb, ltb}
+use Rattle.std.specs.Prelude.{ℕ, ◌<◌, ◌≡◌, Bool, false, ◌||◌, List, [], map, length, get_or, take, eqb, ltb, Ok}
 use Rattle.std.proofs.Common.{sym, ap, ◌∙◌}
 use Rattle.std.proofs.lemmas.Simd.{map-map}
 use Rattle.rules.specs.Verdict.{granted}
@@ -22,13 +22,10 @@ use Rattle.laws.specs.Bytes.{Bytes}
 use Rattle.laws.specs.Machine.{scan-whole}
 use Rattle.laws.specs.SetFile.{read_write, read_proper, write_read}
 use Rattle.laws.specs.Files.{old_sensible, storage-bits}
-use Rattle.program.specs.Stages.{checked_verdict}
-use Rattle.program.specs.declared.Checked.TheVariants as C
+use Rattle.base.specs.Answers.{verdict_of}
 use Rattle.machine.specs.Scan.{Scans}
-use Rattle.machine.specs.declared.Scanned.TheVariants as M
 use Rattle.sets.specs.Judging.{set_verdict}
 use Rattle.build.specs.Contract.{Builds}
-use Rattle.build.specs.declared.Built.TheVariants as B
 use Rattle.promises.specs.Answers.{granted_so}
 use Rattle.promises.specs.Demand1.{build-wrote}
 
@@ -51,7 +48,7 @@ scanned file storage budget P r y e =
     let (s, b, q) = bind_granted (check_storage (cells P.shape) storage) _ (rw r at e) in
     rw (grants_of (storage-bits (cells P.shape) storage) b).is at q
 
-pub steps_are : (file storage : List ℕ) (budget steps : ℕ) (after : List ℕ) → Scans file storage budget (M.Stopped steps) after → (P : Program)
+pub steps_are : (file storage : List ℕ) (budget steps : ℕ) (after : List ℕ) → Scans file storage budget (Ok steps) after → (P : Program)
     → read_program old file ≡ granted P → Stepped P (map (eqb 1) storage) steps after
 steps_are file storage budget steps after c P r =
     let g = granted_so (scan old file storage budget) (λ y. y.steps) (λ y. y.storage) steps storage after c.answer c.leaves in
@@ -64,7 +61,7 @@ steps_are file storage budget steps after c P r =
     }
 
 -- R39: what building wrote is the file of the program's set.
-pub built-is : (file : List ℕ) (rows numbers heads n : ℕ) (before after : List ℕ) → Builds file rows numbers heads (B.Length n) before after
+pub built-is : (file : List ℕ) (rows numbers heads n : ℕ) (before after : List ℕ) → Builds file rows numbers heads (Ok n) before after
     → (P : Program) → read_program old file ≡ granted P → take n after ≡ write_set old (program_set P)
 unfolding build finish write_into
 built-is file rows numbers heads n before after c P r =
@@ -80,7 +77,7 @@ pub write_then_read : (z : TransferSet) → Proper old z → read_set old (write
 write_then_read = read_write old old_sensible
 
 -- and what is accepted is written back as the same bytes.
-pub read_then_write : (file : List ℕ) → Bytes file → checked_verdict C.Granted ≡ set_verdict file
+pub read_then_write : (file : List ℕ) → Bytes file → verdict_of (Ok tt) ≡ set_verdict file
     → (z : TransferSet) × (read_set old file ≡ granted z) × Proper old z × (write_set old z ≡ file)
 unfolding set_verdict
 read_then_write file b c =

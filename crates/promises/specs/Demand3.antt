@@ -1,5 +1,5 @@
 -- Demand 3: the formulas are the program; composing is first then second, however three are grouped, and the unchanging set changes no byte.
-use Rattle.std.specs.Prelude.{ℕ, ◌-◌, ◌^◌, ◌≤◌, ◌≡◌, Bool, true, false, List, [], ◌∷◌, map, take, eqb}
+use Rattle.std.specs.Prelude.{ℕ, ◌-◌, ◌^◌, ◌≤◌, ◌≡◌, Bool, true, false, List, [], ◌∷◌, map, take, eqb, Ok}
 use Rattle.std.proofs.Common.{sym, ◌∙◌}
 use Rattle.std.proofs.Math.Path.{ap}
 use Rattle.std.proofs.Math.ListN.{length, length-map}
@@ -18,20 +18,15 @@ use Rattle.laws.specs.ProgramFile.{read-wellformed}
 use Rattle.laws.specs.Files.{old_sensible, build-accepted, program_leaves, evaluate-granted, evaluate-is-scan}
 use Rattle.laws.specs.Composition.{compose_files, compose_groupings}
 use Rattle.machine.specs.Scan.{Scans}
-use Rattle.machine.specs.declared.Scanned.TheVariants as M
 use Rattle.evaluate.specs.Evaluate.{Evaluates}
-use Rattle.evaluate.specs.declared.values.Evaluated.TheVariants.{Done}
 use Rattle.writer.specs.Writes.{Writes}
-use Rattle.writer.specs.declared.Written.TheVariants as W
 use Rattle.compose.specs.Contract.{Composes}
 use Rattle.compose.specs.Unchanging.{composed-front, still-first, still-second}
-use Rattle.compose.specs.declared.Composed.TheVariants as P
 use Rattle.build.specs.Contract.{Builds, built-front}
-use Rattle.build.specs.declared.Built.TheVariants as B
 use Rattle.promises.specs.Answers.{Granted, granted_so}
 
 -- What a granted evaluation gives, and leaves in the storage.
-evaluated : (file storage : List ℕ) (lent : ℕ) (after : List ℕ) → Evaluates file storage lent Done after
+evaluated : (file storage : List ℕ) (lent : ℕ) (after : List ℕ) → Evaluates file storage lent (Ok tt) after
     → Granted (evaluate old file storage lent) (λ _. tt {0}) (λ v. v) tt after
 evaluated file storage lent after c =
     granted_so (evaluate old file storage lent) (λ _. tt) (λ v. v) tt storage after c.answer c.leaves
@@ -45,7 +40,7 @@ pub record Stops (P : Program) (s t : List Bool) : Type 0 where
   pub stops : run P steps (due 0 s []) ≡ stopped t
 
 module _ (file : List ℕ) (rows numbers heads n : ℕ) (before after : List ℕ)
-    (c : Builds file rows numbers heads (B.Length n) before after) (P : Program) (r : read_program old file ≡ granted P) where
+    (c : Builds file rows numbers heads (Ok n) before after) (P : Program) (r : read_program old file ≡ granted P) where
   -- The file that `build` wrote.
   abbrev set : List ℕ
   set = take n after
@@ -63,7 +58,7 @@ module _ (file : List ℕ) (rows numbers heads n : ℕ) (before after : List ℕ
       rw same (record { steps = l.steps; few = l.few; stops = l.stops })
 
   -- So `evaluate` leaves what the machine leaves.
-  pub evaluate-leaves : (storage : List ℕ) (lent : ℕ) (t : List ℕ) → Evaluates set storage lent Done t
+  pub evaluate-leaves : (storage : List ℕ) (lent : ℕ) (t : List ℕ) → Evaluates set storage lent (Ok tt) t
       → (v : List Bool) × Stops P (map (eqb 1) storage) v × (t ≡ storage_bytes v)
   unfolding set_of
   evaluate-leaves storage lent t d =
@@ -76,8 +71,8 @@ module _ (file : List ℕ) (rows numbers heads n : ℕ) (before after : List ℕ
       (g.what, rw (k.is, same) (record { steps = l.steps; few = l.few; stops = l.stops }), g.leaves)
 
   -- And where `scan` is granted, it leaves the same storage as `evaluate`.
-  pub scan-evaluate : (storage : List ℕ) (budget lent steps : ℕ) (t u : List ℕ) → Scans file storage budget (M.Stopped steps) t
-      → Evaluates set storage lent Done u → t ≡ u
+  pub scan-evaluate : (storage : List ℕ) (budget lent steps : ℕ) (t u : List ℕ) → Scans file storage budget (Ok steps) t
+      → Evaluates set storage lent (Ok tt) u → t ≡ u
   scan-evaluate storage budget lent steps t u a b =
       let x = granted_so (scan old file storage budget) (λ y. y.steps) (λ y. y.storage) steps storage t a.answer a.leaves in
       let y = evaluated set storage lent u b in
@@ -91,7 +86,7 @@ pub swap_is_a_swap : (a b f e₁ e₂ : Bool)
 swap_is_a_swap = Swap.swap-is_a_swap
 
 -- and so does the set in the file that `build` writes of the file `swap`, which is read as that program (`Swap.swap-read`).
-pub swap_built : (rows numbers heads n : ℕ) (before after : List ℕ) → Builds swap rows numbers heads (B.Length n) before after
+pub swap_built : (rows numbers heads n : ℕ) (before after : List ℕ) → Builds swap rows numbers heads (Ok n) before after
     → (z : TransferSet) → read_set old (take n after) ≡ granted z
     → (a b f e₁ e₂ : Bool) → evaluate_set z (a ∷ b ∷ f ∷ e₁ ∷ e₂ ∷ []) ≡ b ∷ a ∷ true ∷ false ∷ false ∷ []
 swap_built rows numbers heads n before after c z r a b f e₁ e₂ =
@@ -101,9 +96,9 @@ swap_built rows numbers heads n before after c z r a b f e₁ e₂ =
 
 -- A composed file evaluates as the first and then the second.
 pub first_then_second : (first second : List ℕ) (rows numbers n : ℕ) (before after : List ℕ)
-    → Composes first second rows numbers (P.Length n) before after
-    → (storage : List ℕ) (k l m : ℕ) (u v w : List ℕ) → Evaluates first storage k Done u → Evaluates second u l Done v
-    → Evaluates (take n after) storage m Done w → w ≡ v
+    → Composes first second rows numbers (Ok n) before after
+    → (storage : List ℕ) (k l m : ℕ) (u v w : List ℕ) → Evaluates first storage k (Ok tt) u → Evaluates second u l (Ok tt) v
+    → Evaluates (take n after) storage m (Ok tt) w → w ≡ v
 first_then_second first second rows numbers n before after c storage k l m u v w a b d =
     let x = evaluated first storage k u a in
     let y = evaluated second u l v b in
@@ -116,9 +111,9 @@ first_then_second first second rows numbers n before after c storage k l m u v w
 
 -- Either grouping of three gives equal values. Each composition is of what the one before it wrote.
 module _ (x y z : List ℕ) (r₁ n₁ k₁ r₂ n₂ k₂ r₃ n₃ k₃ r₄ n₄ k₄ : ℕ) (b₁ a₁ b₂ a₂ b₃ a₃ b₄ a₄ : List ℕ) where
-  pub either_grouping : Composes x y r₁ n₁ (P.Length k₁) b₁ a₁ → Composes (take k₁ a₁) z r₂ n₂ (P.Length k₂) b₂ a₂
-      → Composes y z r₃ n₃ (P.Length k₃) b₃ a₃ → Composes x (take k₃ a₃) r₄ n₄ (P.Length k₄) b₄ a₄
-      → (storage : List ℕ) (k l : ℕ) (v w : List ℕ) → Evaluates (take k₂ a₂) storage k Done v → Evaluates (take k₄ a₄) storage l Done w → v ≡ w
+  pub either_grouping : Composes x y r₁ n₁ (Ok k₁) b₁ a₁ → Composes (take k₁ a₁) z r₂ n₂ (Ok k₂) b₂ a₂
+      → Composes y z r₃ n₃ (Ok k₃) b₃ a₃ → Composes x (take k₃ a₃) r₄ n₄ (Ok k₄) b₄ a₄
+      → (storage : List ℕ) (k l : ℕ) (v w : List ℕ) → Evaluates (take k₂ a₂) storage k (Ok tt) v → Evaluates (take k₄ a₄) storage l (Ok tt) w → v ≡ w
   either_grouping c₁ c₂ c₃ c₄ storage k l v w d e =
       let p = evaluated (take k₂ a₂) storage k v d in
       let q = evaluated (take k₄ a₄) storage l w e in
@@ -131,9 +126,9 @@ module _ (x y z : List ℕ) (r₁ n₁ k₁ r₂ n₂ k₂ r₃ n₃ k₃ r₄ n
 
 -- The unchanging set of a set's shape, as `write_unchanging` wrote it, before or after the set gives back the set's bytes.
 module _ (file : List ℕ) (b : Bytes file) (z : TransferSet) (r : read_set old file ≡ granted z) (n : ℕ) (blank still : List ℕ)
-    (w : Writes (write_unchanging old z.shape (length blank)) (W.Length n) blank still) (rows numbers k : ℕ) (before after : List ℕ) where
-  pub unchanging-before : Composes (take n still) file rows numbers (P.Length k) before after → take k after ≡ file
+    (w : Writes (write_unchanging old z.shape (length blank)) (Ok n) blank still) (rows numbers k : ℕ) (before after : List ℕ) where
+  pub unchanging-before : Composes (take n still) file rows numbers (Ok k) before after → take k after ≡ file
   unchanging-before = still-first file b z r n blank still w rows numbers k before after
 
-  pub unchanging-after : Composes file (take n still) rows numbers (P.Length k) before after → take k after ≡ file
+  pub unchanging-after : Composes file (take n still) rows numbers (Ok k) before after → take k after ≡ file
   unchanging-after = still-second file b z r n blank still w rows numbers k before after

@@ -1,13 +1,12 @@
 -- Marks in lent numbers for the rows that heads reach.
 use Prim.Native.Nat.{ℕ, zero, suc, ◌+◌, ◌-◌, ◌≤◌, ◌<◌}
-use Rattle.std.specs.Prelude.{◌≡◌, Bool, true, false, cond, not, List, [], ◌∷◌, ◌++◌, get_or, set, drop, eqb}
+use Rattle.std.specs.Prelude.{◌≡◌, Bool, true, false, cond, not, List, [], ◌∷◌, ◌++◌, get_or, set, take, eqb}
 use Rattle.std.proofs.Math.Path.{refl, ap, subst}
-use Rattle.std.proofs.Common.{sym, ◌∙◌, get_or-set_same, get_or-set_other, drop-cons, eq-eqb, ne_eqb}
+use Rattle.std.proofs.Common.{sym, ◌∙◌, get_or-set_same, get_or-set_other, eq-eqb, ne_eqb}
 use native.Mathlib.Omega.{arith}
 use Rattle.std.proofs.Math.Decide.{ℕ_discrete}
 use Rattle.std.proofs.Math.ListN.{length, length-set}
-use Rattle.std.proofs.lemmas.List.{length-replicate, get_or-replicate}
-use Rattle.std.proofs.Math.Seq.{drop-length}
+use Rattle.std.proofs.lemmas.List.{length-replicate, get_or-replicate, set_comm, take_more}
 use Rattle.rules.specs.Lists.{elem}
 use Rattle.rules.specs.Shape.{Shape, cells}
 use Rattle.rules.specs.Rows.{Row, leaf, inv, bin, row_at}
@@ -15,11 +14,8 @@ use Rattle.rules.specs.Sets.{operands, needs, reaches}
 use Rattle.rules.specs.Operations.{work_after}
 use Rattle.laws.specs.Canonical.{Below, Canonical}
 use Rattle.laws.specs.Rule.{below_more, canonical-below}
-use Rattle.base.specs.declared.kinds.Row as K
 use Rattle.rows.specs.Stored.{table-length, table-row}
-use Rattle.rows.specs.Entries.{node_row, row_of_entry, table_in}
-use Rattle.rows.specs.declared.node.Node.{Node}
-use Rattle.rows.specs.declared.node.Node.TheVariants.{Leaf, Not, Two}
+use Rattle.rows.specs.Entries.{row_of_entry, table_in}
 use Rattle.reach.specs.Tabled.{Tabled}
 
 -- ---- marking
@@ -78,64 +74,24 @@ marked-operands (leaf i) b m = m
 marked-operands (inv a) b m = marked-one a b m
 marked-operands (bin o a c) {s = s} b m = marked-one a (omega (arith, b.0, length-set s c 1)) (marked-one c b.1 m)
 
--- A loop that marks heads, the last first: those from i on are marked.
-pub record Heading (x d s : List ℕ) (i : ℕ) : Type 0 where
-  pub is : s ≡ mark_all (drop i x) d
-  pub high : i ≤ length x
-  pub size : length s ≡ length d
+-- Rows are marked in any order, so one more may be marked last.
+mark-last : (x s : List ℕ) (a : ℕ) → mark_all (x ++ (a ∷ [])) s ≡ set (mark_all x s) a 1
+unfolding mark_all
+mark-last [] s a = refl
+mark-last (b ∷ x) s a = rw (mark-last x s a) (elim (ℕ_discrete a b) [
+  | yes e ↦ rw e refl
+  | no n ↦ set_comm (mark_all x s) a b 1 1 n
+])
 
-module _ {x d : List ℕ} where
-  pub heads-none : Heading x d d (length x)
-  unfolding mark_all
-  heads-none = record { is = rw drop-length; high = omega arith; size = refl }
-
-  pub heads-more : {s u : List ℕ} {i : ℕ} → Heading x d s i → 0 < i → u ≡ set s (get_or x (i - 1) 0) 1 → Heading x d u (i - 1)
-  unfolding mark_all
-  heads-more {s} {u} {i} h p q =
-      let z : i ≡ suc (i - 1) = omega arith in
-      let e : s ≡ mark_all (drop (suc (i - 1)) x) d = subst (λ n. s ≡ mark_all (drop n x) d) z h.is in
-      record {
-        is = q ∙ rw (drop-cons x (i - 1) 0 (omega (arith, h.high)), e);
-        high = omega (arith, h.high);
-        size = ap length q ∙ length-set s (get_or x (i - 1) 0) 1 ∙ h.size;
-      }
-
-  pub heads_all : {s : List ℕ} {i : ℕ} → Heading x d s i → i ≤ 0 → s ≡ mark_all x d
-  heads_all {s} {i} h p =
-      let z : i ≡ 0 = omega arith in
-      rw z at h.is
-
--- R26: the marks of the rows that a row names, for each form of it.
-module _ {node : Node} (s : List ℕ) where
-  pub leaf_marks : {i : K.Row} → node ≡ Leaf i → s ≡ mark_all (operands (node_row node)) s
-  unfolding mark_all
-  leaf_marks e = rw e
-
-  pub not_marks : {u : List ℕ} {a : K.Row} → node ≡ Not a → u ≡ set s a.0 1 → u ≡ mark_all (operands (node_row node)) s
-  unfolding mark_all
-  not_marks e q = rw e q
-
-  pub two_marks : {u v : List ℕ} {o : Bool} {a b : K.Row} → node ≡ Two o a b → u ≡ set s b.0 1 → v ≡ set u a.0 1
-      → v ≡ mark_all (operands (node_row node)) s
-  unfolding mark_all
-  two_marks e q r = rw e (r ∙ rw q)
+pub mark_next : (x s : List ℕ) (i : ℕ) → i < length x
+    → mark_all (take (i + 1) x) s ≡ set (mark_all (take i x) s) (get_or x i 0) 1
+mark_next x s i h = rw (take_more x i 0 h) (mark-last (take i x) s (get_or x i 0))
 
 -- R33: what row k names can be marked.
 pub record OneMarks (rows : List ℕ) (k : ℕ) (s : List ℕ) : Type 0 where
   pub held : k < length rows
   pub numbered : k < length s
   pub low : Below (length s) (row_of_entry (get_or rows k 0))
-
-pub from-none : (rows : List ℕ) (k : ℕ) (s : List ℕ) → get_or s k 0 ≡ 0 → s ≡ mark_from rows k s
-unfolding mark_from
-from-none rows k s e = rw (eq-eqb (get_or s k 0) 0 e)
-
-pub from-marked : (rows : List ℕ) (k : ℕ) (s : List ℕ) (r : Row) (u : List ℕ) → (get_or s k 0 ≡ 0 → ⊥)
-    → r ≡ row_of_entry (get_or rows k 0)
-    → u ≡ mark_all (operands r) s
-    → u ≡ mark_from rows k s
-unfolding mark_from
-from-marked rows k s r u n e q = q ∙ rw (e, ne_eqb (get_or s k 0) 0 n)
 
 -- R33: the walk, when the rows from k on have been gone through: some numbers are marked, from which the rest of it reaches all.
 pub record Marking (t : List Row) (x : List ℕ) (k : ℕ) (s : List ℕ) : Type 0 where
@@ -174,7 +130,7 @@ module _ {sh : Shape} {x rows : List ℕ} {used room : ℕ} (T : Tabled sh x row
   size : length (table_in rows used) ≡ used
   size = table-length rows used T.held
 
-  pub heads_fit : (n : ℕ) → n ≡ room → (c : ℕ) → get_or x c 0 < n
+  heads_fit : (n : ℕ) → n ≡ room → (c : ℕ) → get_or x c 0 < n
   heads_fit n e c = omega (arith, T.stands.low c, T.room, size)
 
   pub walk_heads : (d : List ℕ) {s u : List ℕ} → length d ≡ room → s ≡ work_after d → u ≡ mark_all x s

@@ -6,7 +6,7 @@ use Rattle.std.proofs.Math.Bool.{true, false}
 use Rattle.std.proofs.Math.Decide.{dec_lt}
 use Rattle.std.proofs.Math.Numerals.{add-one}
 use Rattle.std.proofs.Math.Dec.{ltb}
-use borrow.Author.Tests.{eq-eqb, ne_eqb, eqb-true, lt-ltb, le-ltb, ltb-false}
+use borrow.Author.Tests.{eqb-true, lt-ltb, le-ltb, ltb-false}
 use Rattle.rules.specs.Rows.{Row, base, row_at}
 use Rattle.rules.specs.Sets.{reaches, unchanging, Carried, carry_row, carry, append}
 use Rattle.laws.specs.Canonical.{Canonical}
@@ -42,16 +42,6 @@ unfoldable pub number_rows : ℕ → ℕ → List ℕ → Numbering
 number_rows l zero d = numbering l d
 number_rows l (suc k) d = number_row l k (number_rows l k d)
 
-module _ (l k n : ℕ) (s : List ℕ) where
-  pub number-leaf : k < l → numbering n (set s k k) ≡ number_row l k (numbering n s)
-  number-leaf h = rw (lt-ltb k l h)
-
-  pub number-none : l ≤ k → get_or s k 0 ≡ 0 → numbering n s ≡ number_row l k (numbering n s)
-  number-none h e = rw (le-ltb k l h, eq-eqb (get_or s k 0) 0 e)
-
-  pub number-next : l ≤ k → (get_or s k 0 ≡ 0 → ⊥) → numbering (n + 1) (set s k n) ≡ number_row l k (numbering n s)
-  number-next h e = rw (le-ltb k l h, ne_eqb (get_or s k 0) 0 e)
-
 -- After k rows.
 pub record Counting (l : ℕ) (d : List ℕ) (k : ℕ) (s : Numbering) : Type 0 where
   pub is : s ≡ number_rows l k d
@@ -80,11 +70,6 @@ module _ {l : ℕ} {d : List ℕ} where
       grow true b = length-set s.new k k ∙ c.size
       grow false true = c.size
       grow false false = length-set s.new k s.next ∙ c.size
-
-  pub counting_all : {k used : ℕ} {s : Numbering} → Counting l d k s → used ≤ k → k ≤ used → s ≡ number_rows l used d
-  counting_all {k} {used} c h g =
-      let e : k ≡ used = omega arith in
-      rw e at c.is
 
 -- ---- the numbers of the rules
 
@@ -192,12 +177,10 @@ numbered {C} w r zero h = record {
 numbered {C} {marks = marks} w r (suc k) h =
     numbered-row w k (number_rows (2 + C) k marks) (numbered w r k (omega arith)) (omega arith)
 
--- R53: the rows of a table can be numbered; and once they have been marked and numbered, they have the numbers of the rules.
-module _ {sh : Shape} {x rows : List ℕ} {used room : ℕ} (T : Tabled sh x rows used room) {C : ℕ} (c : C ≡ cells sh) where
-  pub table-ready : (n : ℕ) → n ≡ room → (2 + C ≤ used) × (used ≤ n) × (used < 65536)
-  table-ready n e =
-      (omega (arith, T.stands.canonical.long, table-length rows used T.held), omega (arith, T.room), omega (arith, T.small))
-
-  pub table-numbered : {marks : List ℕ} {s : Numbering} → Reached (table_in rows used) x marks → s ≡ number_rows (2 + C) used marks
-      → Numbered (cells sh) (table_in rows used) x used s
-  table-numbered r q = rw (q, c) (numbered T.stands.canonical r used (omega (arith, table-length rows used T.held)))
+-- R36: once the rows of a table have been marked and numbered, they have the numbers of the rules.
+pub table-numbered : {sh : Shape} {x rows marks : List ℕ} {used room C : ℕ} {s : Numbering} (T : Tabled sh x rows used room)
+    → C ≡ cells sh
+    → Reached (table_in rows used) x marks → s ≡ number_rows (2 + C) used marks
+    → Numbered (cells sh) (table_in rows used) x used s
+table-numbered {rows = rows} {used = used} T c r q =
+    rw (q, c) (numbered T.stands.canonical r used (omega (arith, table-length rows used T.held)))

@@ -9,7 +9,6 @@ ghost use Rattle.reach.specs.Marks.{mark_all, mark_from, OneMarks, Reached};
 
 use base::kinds::Row;
 use base::shape::Shape;
-use base::work::clear_numbers;
 use rows::node::{Node, node_of};
 
 // Marks a row.
@@ -22,18 +21,18 @@ fn mark(numbers: &mut [u16], r: Row)
 }
 
 // R33: marks the heads.
+#[tactic(auto, using(crate::specs::Marks::mark_next), unfolding(crate::specs::Marks::mark_all))]
 fn mark_heads(heads: &[u16], numbers: &mut [u16])
     requires { (c : ℕ) → get_or heads.now c 0 < length numbers.old }
     ensures { numbers.new ≡ mark_all heads.now numbers.old }
 {
-    let mut i = heads.len();
-    while 0 < i {
-        i -= 1;
-        mark(numbers, Row(heads[i]));
+    for head in heads {
+        mark(numbers, Row(*head));
     }
 }
 
 // R26, R33: marks the rows that a row names.
+#[tactic(auto, unfolding(crate::specs::Marks::mark_all))]
 fn mark_operands(node: Node, numbers: &mut [u16])
     requires { Below (length numbers.old) (node_row node) }
     ensures { numbers.new ≡ mark_all (operands (node_row node)) numbers.old }
@@ -49,6 +48,7 @@ fn mark_operands(node: Node, numbers: &mut [u16])
 }
 
 // R33: marks the rows that row k names, if it is marked itself.
+#[tactic(auto, unfolding(crate::specs::Marks::mark_from))]
 fn mark_from(rows: &[u64], k: usize, numbers: &mut [u16])
     requires { OneMarks rows.now k numbers.old }
     ensures { numbers.new ≡ mark_from rows.now k numbers.old }
@@ -64,12 +64,10 @@ pub fn mark_reached(shape: Shape, heads: &[u16], rows: &[u64], used: usize, numb
     requires { Tabled (shape_of shape) heads.now rows.now used (length numbers.old) }
     ensures { Reached (table_in rows.now used) heads.now numbers.new }
 {
-    clear_numbers(numbers);
+    numbers.fill(0);
     mark_heads(heads, numbers);
     let leaves = 2 + shape.cells();
-    let mut k = used;
-    while leaves < k {
-        k -= 1;
+    for k in (leaves..used).rev() {
         mark_from(rows, k, numbers);
     }
 }

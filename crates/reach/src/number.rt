@@ -41,10 +41,8 @@ fn number_rows(numbers: &mut [u16], leaves: usize, used: usize) -> usize
     ensures { numbering result numbers.new ≡ number_rows leaves used numbers.old }
 {
     let mut next = leaves;
-    let mut k = 0;
-    while k < used {
+    for k in 0..used {
         next = number_row(numbers, leaves, k, next);
-        k += 1;
     }
     next
 }

@@ -1,2 +1,3 @@
--- What stands at a place of a program file.
+-- The codes, and what stands at a place of a program file.
+pub mod Codes
 pub mod Bodies

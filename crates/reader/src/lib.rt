@@ -2,6 +2,7 @@
 #![tactic(auto)]
 
 pub mod body;
+pub mod code;
 
 ghost use Rattle.std.specs.Prelude.{◌≡◌, get_or};
 
@@ -16,7 +17,7 @@ pub struct Reader<'a> {
 fn byte_in(bytes: &[u8], at: usize) -> u8
     ensures { result ≡ get_or bytes.now at 0 }
 {
-    if at < bytes.len() { bytes[at] } else { 0 }
+    bytes.get(at).copied().unwrap_or(0)
 }
 
 // A reader of a file at a place.

@@ -1,17 +1,19 @@
 // One set after another over one table in a lent slice (R34): the second set's rows are carried to their own table.
 #![tactic(auto)]
 
-ghost use Rattle.std.specs.Prelude.{◌≡◌, false, ◌∷◌, map, ◌+◌, ◌<◌, length, get_or};
+ghost use Rattle.std.specs.Prelude.{◌≡◌, ◌∷◌, map, ◌+◌, ◌<◌, length, get_or};
 ghost use Rattle.base.specs.Answers.{shape_of};
+ghost use Rattle.table.specs.Append.{Kept};
 ghost use Rattle.rows.specs.Entries.{node_row};
 ghost use Rattle.rewrite.specs.Carrying.{Fits, Puts, Turn, Turns, Start, Carries, Moving};
 ghost use Rattle.rewrite.specs.Follow.{Following, Follows};
 
 use base::kinds::Row;
+use base::refusal::Refusal;
 use base::shape::Shape;
 use reach::mark::mark_reached;
 use reach::number::number_of;
-use rows::adding::{Added, add};
+use rows::adding::add;
 use rows::node::{Node, node_of};
 use table::Table;
 
@@ -29,54 +31,47 @@ fn head_of(x: &[u16], i: Row) -> Row
 
 // R34: carries a row that is reached: a constant stays, a cell becomes the first set's head, an operation is added with its
 // operands renumbered.
-fn carry_node(x: &[u16], rows: &mut [u64], table: Table, numbers: &[u16], node: Node) -> Added
-    requires { (table.refused ≡ false) × Fits x.now rows.old table.used numbers.now (node_row node) }
-    ensures { Puts x.now rows.old table.used numbers.now (node_row node) result rows.new }
+fn carry_node(x: &[u16], table: &mut Table, numbers: &[u16], node: Node) -> Result<Row, Refusal>
+    requires { Fits x.now table.old numbers.now (node_row node) }
+    ensures kept { Kept table.old table.new }
+    ensures puts { Puts x.now table.old numbers.now (node_row node) result table.new }
 {
     match node {
-        Node::Leaf(i) => Added {
-            row: head_of(x, i),
-            table: table,
-        },
-        Node::Not(a) => add(rows, table, Node::Not(number_of(numbers, a))),
+        Node::Leaf(i) => Ok(head_of(x, i)),
+        Node::Not(a) => add(table, Node::Not(number_of(numbers, a))),
         Node::Two(o, a, b) => add(
-            rows,
             table,
             Node::Two(o, number_of(numbers, a), number_of(numbers, b)),
         ),
     }
 }
 
-// R34: carries row k if it is marked, and notes its number in place of the mark. A table that is refused stays as it is.
-fn carry_row(x: &[u16], k: usize, rows: &mut [u64], table: Table, numbers: &mut [u16]) -> Table
-    requires { Turn x.now rows.old table numbers.old k }
-    ensures { Turns x.now rows.old table numbers.old k rows.new result numbers.new }
+// R34: carries row k if it is marked, and notes its number in place of the mark.
+fn carry_row(x: &[u16], k: usize, table: &mut Table, numbers: &mut [u16]) -> Result<(), Refusal>
+    requires { Turn x.now table.old numbers.old k }
+    ensures kept { Kept table.old table.new }
+    ensures turns { Turns x.now table.old numbers.old k result table.new numbers.new }
 {
-    if table.refused {
-        return table;
-    }
     if numbers[k] == 0 {
-        return table;
+        return Ok(());
     }
-    let node = node_of(rows[k]);
-    let added = carry_node(x, rows, table, numbers, node);
-    numbers[k] = added.row.0;
-    added.table
+    let node = node_of(table.rows()[k]);
+    let row = carry_node(x, table, numbers, node)?;
+    numbers[k] = row.0;
+    Ok(())
 }
 
 // R34: carries the rows that are marked, lowest first.
-fn carry_rows(x: &[u16], rows: &mut [u64], start: Table, numbers: &mut [u16]) -> Table
-    requires { Start x.now rows.old start numbers.old }
-    ensures { Carries x.now rows.old start numbers.old rows.new result numbers.new
-        start.used }
+fn carry_rows(x: &[u16], table: &mut Table, numbers: &mut [u16]) -> Result<(), Refusal>
+    requires { Start x.now table.old numbers.old }
+    ensures kept { Kept table.old table.new }
+    ensures carries { Carries x.now table.old numbers.old result table.new numbers.new }
 {
-    let mut table = start;
-    let mut k = 0;
-    while k < start.used {
-        table = carry_row(x, k, rows, table, numbers);
-        k += 1;
+    let used = table.used();
+    for k in 0..used {
+        carry_row(x, k, table, numbers)?;
     }
-    table
+    Ok(())
 }
 
 // R34: the heads, renumbered.
@@ -84,35 +79,26 @@ fn move_heads(numbers: &[u16], y: &[u16], made: &mut [u16])
     requires { Moving numbers.now y.now (length made.old) }
     ensures { made.new ≡ map (λ h. get_or numbers.now h 0) y.now }
 {
-    let mut c = 0;
-    while c < made.len() {
+    for (c, x) in made.iter_mut().enumerate() {
         let head = number_of(numbers, Row(y[c]));
-        made[c] = head.0;
-        c += 1;
+        *x = head.0;
     }
 }
 
-// R34: the set with heads y after the set with heads `made`, over one table. A table that is refused stays as it is.
+// R34: the set with heads y after the set with heads `made`, over one table.
 pub fn follow(
     shape: Shape,
     y: &[u16],
-    rows: &mut [u64],
-    table: Table,
+    table: &mut Table,
     numbers: &mut [u16],
     made: &mut [u16],
-) -> Table
-    requires { Following (shape_of shape) y.now rows.old table (length numbers.old) made.old }
-    ensures { Follows (shape_of shape) y.now rows.old table made.old rows.new result
-        made.new }
+) -> Result<(), Refusal>
+    requires { Following (shape_of shape) y.now table.old (length numbers.old) made.old }
+    ensures kept { Kept table.old table.new }
+    ensures follows { Follows (shape_of shape) y.now table.old (length numbers.old) made.old result table.new made.new }
 {
-    if table.refused {
-        return table;
-    }
-    mark_reached(shape, y, rows, table.used, numbers);
-    let after = carry_rows(made, rows, table, numbers);
-    if after.refused {
-        return after;
-    }
+    mark_reached(shape, y, table.rows(), table.used(), numbers);
+    carry_rows(made, table, numbers)?;
     move_heads(numbers, y, made);
-    after
+    Ok(())
 }

@@ -1,26 +1,26 @@
 -- Laws of adding to a table in a lent slice.
-use Rattle.std.specs.Prelude.{ℕ, zero, suc, ◌+◌, ◌-◌, ◌/◌, ◌%◌, ◌≤◌, ◌<◌, min, max, ◌≡◌, refl, Bool, true, false, cond, List, map, length, get_or, eqb}
-use Rattle.std.proofs.Common.{ap, sym, ◌∙◌, arith}
+use Rattle.std.specs.Prelude.{Ok, Err}
+use Rattle.std.specs.Prelude.{ℕ, zero, suc, ◌+◌, ◌-◌, ◌/◌, ◌%◌, ◌≤◌, ◌<◌, min, max, ◌≡◌, refl, Bool, true, false, cond, List, [], ◌∷◌, map, length, get_or, eqb}
+use Rattle.std.proofs.Common.{ap, sym, ◌∙◌, arith, length-append}
 use Rattle.rules.specs.Lists.{seek}
 use Rattle.rules.specs.Room.{room}
-use Rattle.rules.specs.Rows.{Row, leaf, inv, bin, row_at, have, make, plan, plan_not, plan_bin, absorbing, neutral, settle, find, add, same}
+use Rattle.rules.specs.Rows.{Row, leaf, inv, bin, row_at, have, make, plan, plan_not, plan_bin, absorbing, neutral, settle, insert, find, add, same}
 use Rattle.laws.specs.Canonical.{Below, Canonical}
 use Rattle.laws.specs.Rows.{Inserts, stood, fresh, inserts}
 use Rattle.laws.specs.Rule.{Ready, ready-below, Right, below_more, plan-kept, plan-right, canonical-below}
-use Rattle.laws.specs.Grow.{ext_length, add_extends}
-use Rattle.laws.specs.Verdict.{no_false}
 use Rattle.laws.specs.Search.{last_of, last-low, find-from, none_to_last}
+use Rattle.base.specs.Answers.{Answer}
 use Rattle.base.specs.declared.kinds.Row as K
+use Rattle.base.specs.declared.refusal.Refusal.{Refusal}
 use Rattle.table.specs.declared.Table.{Table}
-use Rattle.table.specs.Append.{Appends}
+use Rattle.table.specs.Append.{More, Full}
 use Rattle.rows.specs.declared.node.Node.{Node}
 use Rattle.rows.specs.declared.node.Node.TheVariants.{Not, Two}
 use Rattle.rows.specs.declared.rule.Plan as P
 use Rattle.rows.specs.declared.rule.Plan.TheVariants.{Have, Make}
-use Rattle.rows.specs.declared.adding.Added.{Added}
 use Rattle.rows.specs.Entries.{node_row, plan_row, entry, row_of_entry, Narrow, entry-same}
-use Rattle.rows.specs.Table.{Stored, Holds, Gives, Addable, Settles, Adds}
-use Rattle.rows.specs.Stored.{slice_row, stored-length, stored_row, holds-append}
+use Rattle.rows.specs.Table.{Stored, Exceeds, Gives, Addable, Settles, Adds}
+use Rattle.rows.specs.Stored.{slice_row, stored-length, stored_row, stored_more, exceeds-full}
 
 -- ---- nodes by their case
 
@@ -103,46 +103,48 @@ seek_ext f g (suc n) i e =
     rw (p, rest)
 
 -- The search by numbers, from there on, finds the row that the rule finds.
-module _ (rows : List ℕ) (s : Table) (n : Node) (e last at : ℕ) (made : (e ≡ entry (node_row n)) × Narrow (node_row n))
-    (from : last ≡ last_of (node_row n)) (found : at ≡ seek (λ i. eqb (get_or rows i 0) e) (s.used - (last + 1)) (last + 1))
-    (free : s.refused ≡ false) where
+module _ (s : Table) (n : Node) (e last at : ℕ) (made : (e ≡ entry (node_row n)) × Narrow (node_row n))
+    (from : last ≡ last_of (node_row n)) (found : at ≡ seek (λ i. eqb (get_or s.rows.now i 0) e) (s.used - (last + 1)) (last + 1)) where
   abbrev q : Row
   q = node_row n
 
-  found-row : {C : ℕ} {t : List Row} → Canonical C t → Stored rows s.used t → Ready (length t) q → at ≡ find t q
+  found-row : {C : ℕ} {t : List Row} → Canonical C t → Stored s t → Ready (length t) q → at ≡ find t q
   found-row {t = t} w st h =
       let size = stored-length st in
       let low = last-low (length t) q h in
       let next : last + 1 ≡ suc (last_of q) = omega arith in
-      let same_test : (k : ℕ) → last + 1 ≤ k → k < last + 1 + (s.used - (last + 1)) → eqb (get_or rows k 0) e ≡ same (row_at t k) q
+      let same_test : (k : ℕ) → last + 1 ≤ k → k < last + 1 + (s.used - (last + 1)) → eqb (get_or s.rows.now k 0) e ≡ same (row_at t k) q
       = λ k a b.
       (let l : k < s.used = omega (arith, low) in
       let row = stored_row st k l in
-      let own : get_or rows k 0 ≡ entry (row_at t k) = sym (st.entries k l) ∙ ap entry (sym row) in
-      rw (own, made.0) (entry-same (row_at t k) q (rw row (entry_narrow (get_or rows k 0))) made.1)) in
+      let own : get_or s.rows.now k 0 ≡ entry (row_at t k) = sym (st.entries k l) ∙ ap entry (sym row) in
+      rw (own, made.0) (entry-same (row_at t k) q (rw row (entry_narrow (get_or s.rows.now k 0))) made.1)) in
       found ∙ seek_ext _ (λ i. same (row_at t i) q) (s.used - (last + 1)) (last + 1) same_test
       ∙ rw (next, ← size) (sym (find-from t q (suc (last_of q)) low (none_to_last t q (length t) h (canonical-below w))))
 
-  -- A table that a state holds stands for it.
-  holding : {t : List Row} → Stored rows s.used t → Holds rows s t
-  holding st = record { kept = λ _. st; over = λ f. absurd (no_false (sym free ∙ f)) }
-
   -- The row stands.
-  pub settle-stood : at < s.used → (x : Added) → x.row.0 ≡ at → x.table ≡ s → Settles rows s.used n x rows
-  settle-stood l x i z C t w st h m = go (inserts t q)
+  pub settle-stood : at < s.used → (x : K.Row) → x.0 ≡ at → Settles s n (Ok x) s
+  settle-stood l x i C t w st h m = go (inserts t q)
     where
-      go : Inserts t q → Gives rows x (settle t (make q))
-      go (stood a b c) = record { holds = rw (a, z) (holding st); row = λ _. i ∙ found-row w st h }
+      go : Inserts t q → Gives s (Ok x) s (settle t (make q))
+      go (stood a b c) = rw a (st, i ∙ found-row w st h)
       go (fresh a b c) = absurd (omega (arith, found-row w st h, stored-length st))
 
-  -- The row is not there, and is appended, or refused.
-  pub settle-append : s.used ≤ at → (x : Added) (after : List ℕ) → x.row.0 ≡ at → Appends rows s e x.table after
-      → Settles rows s.used n x after
-  settle-append l x after i p C t w st h m = go (inserts t q)
-    where
-      go : Inserts t q → Gives after x (settle t (make q))
-      go (stood a b c) = absurd (omega (arith, found-row w st h, stored-length st))
-      go (fresh a b c) = record { holds = rw a (holds-append (holding st) q made p); row = λ _. i ∙ found-row w st h }
+  -- The row is not there, and is appended, or no row is left.
+  module _ (l : s.used ≤ at) {s' : Table} where
+    pub settle-append : More s e s' → (x : K.Row) → x.0 ≡ at → Settles s n (Ok x) s'
+    settle-append p x i C t w st h m = go (inserts t q)
+      where
+        go : Inserts t q → Gives s (Ok x) s' (settle t (make q))
+        go (stood a b c) = absurd (omega (arith, found-row w st h, stored-length st))
+        go (fresh a b c) = rw a (stored_more st q made p, i ∙ found-row w st h)
+
+    pub settle-full : (x : Refusal) → Full s x s' → Settles s n (Err x) s'
+    settle-full x p C t w st h m = go (inserts t q)
+      where
+        go : Inserts t q → Exceeds s x (insert t q)
+        go (stood a b c) = absurd (omega (arith, found-row w st h, stored-length st))
+        go (fresh a b c) = exceeds-full st p (omega (arith, ap length a, length-append t (q ∷ [])))
 
 -- ---- adding
 
@@ -151,65 +153,39 @@ pub ready_slice : (rows : List ℕ) (used : ℕ) (r : Row) → used ≤ room (le
 ready_slice rows used r h b = below_more used (length rows) r (omega arith) (ready-below used r b)
 
 -- A slice of rows plans as the table that it stores.
-stored-plan : {rows : List ℕ} {used : ℕ} {t : List Row} → Stored rows used t → (r : Row) → Below (length t) r
-    → plan (map row_of_entry rows) r ≡ plan t r
-stored-plan {rows} {used} {t} s r h =
-    plan-kept t (map row_of_entry rows) (λ i l. slice_row rows i ∙ sym (stored_row s i (omega (arith, stored-length s)))) r h
+stored-plan : {s : Table} {t : List Row} → Stored s t → (r : Row) → Below (length t) r
+    → plan (map row_of_entry s.rows.now) r ≡ plan t r
+stored-plan {s} {t} w r h =
+    plan-kept t (map row_of_entry s.rows.now) (λ i l. slice_row s.rows.now i ∙ sym (stored_row w i (omega (arith, stored-length w)))) r h
 
-module _ (rows : List ℕ) (s : Table) (n : Node) where
-  pub add-idle : s.refused ≡ true → (x : Added) → x.table ≡ s → Adds rows s n x rows
-  add-idle e x q = record { idle = λ _. (q, refl); adds = λ f. absurd (no_false (sym f ∙ e)) }
+module _ (s : Table) (n : Node) (p : P.Plan) (planned : plan_row p ≡ plan (map row_of_entry s.rows.now) (node_row n)) where
+  -- The plan over the table.
+  plan-is : {t : List Row} → Stored s t → Ready (length t) (node_row n) → plan t (node_row n) ≡ plan_row p
+  plan-is st h = sym (planned ∙ stored-plan st (node_row n) (ready-below _ (node_row n) h))
 
-  module _ (e : s.refused ≡ false) (p : P.Plan) (planned : plan_row p ≡ plan (map row_of_entry rows) (node_row n)) where
-    -- The plan over the table.
-    plan-is : {t : List Row} → Stored rows s.used t → Ready (length t) (node_row n) → plan t (node_row n) ≡ plan_row p
-    plan-is st h = sym (planned ∙ stored-plan st (node_row n) (ready-below _ (node_row n) h))
+  pub add-have : (i : K.Row) → p ≡ Have i → Adds s n (Ok i) s
+  add-have i z = record {
+    gives = λ C t w st h.
+        let is : plan t (node_row n) ≡ have i.0 = plan-is st h ∙ ap plan_row z in
+        rw is (st, refl);
+  }
 
-    pub add-have : (i : K.Row) → p ≡ Have i → (x : Added) → x.table ≡ s → x.row ≡ i → Adds rows s n x rows
-    add-have i z x q v = record {
-      idle = λ f. absurd (no_false (sym e ∙ f));
-      adds = λ _ C t w st h.
-          let is : plan t (node_row n) ≡ have i.0 = plan-is st h ∙ ap plan_row z in
-          rw is (record {
-            holds = record { kept = λ _. rw q st; over = λ f. absurd (no_false (sym e ∙ (rw q at f))) };
-            row = λ _. rw v refl;
-          });
-    }
+  pub add-make : (m : Node) → p ≡ Make m → (r : Answer K.Row) (s' : Table) → Settles s m r s' → Adds s n r s'
+  add-make m z r s' g = record {
+    gives = λ C t w st h.
+        let is : plan t (node_row n) ≡ make (node_row m) = plan-is st h ∙ ap plan_row z in
+        let right : Right t (node_row n) (make (node_row m)) = rw is at (plan-right w (node_row n) h) in
+        rw is (g C t w st right.0 right.2);
+  }
 
-    pub add-make : (m : Node) → p ≡ Make m → (x : Added) (after : List ℕ) → Settles rows s.used m x after → Adds rows s n x after
-    add-make m z x after g = record {
-      idle = λ f. absurd (no_false (sym e ∙ f));
-      adds = λ _ C t w st h.
-          let is : plan t (node_row n) ≡ make (node_row m) = plan-is st h ∙ ap plan_row z in
-          let right : Right t (node_row n) (make (node_row m)) = rw is at (plan-right w (node_row n) h) in
-          rw is (g C t w st right.0 right.2);
-    }
+  -- A row that is made is one that can be settled.
+  pub make-addable : (m : Node) → p ≡ Make m → Addable s (node_row n) → Addable s (node_row m)
+  make-addable m z a = record {
+    held = a.held;
+    ready = plan-ready (map row_of_entry s.rows.now) s.used (node_row n) (node_row m) a.ready (sym planned ∙ ap plan_row z);
+  }
 
-    -- A row that is made is one that can be settled.
-    pub make-addable : (m : Node) → p ≡ Make m → Addable rows s.used (node_row n) → Addable rows s.used (node_row m)
-    make-addable m z a = record {
-      held = a.held;
-      ready = plan-ready (map row_of_entry rows) s.used (node_row n) (node_row m) a.ready (sym planned ∙ ap plan_row z);
-    }
-
--- R54: an addition keeps what a state stands for, refused or not. Where it is not refused, the operation must be the one asked for.
-pub holds-add : {C : ℕ} {rows after : List ℕ} {s : Table} {t : List Row} {n : Node} {x : Added} → Canonical C t → Holds rows s t
-    → Adds rows s n x after → length after ≡ length rows → (r : Row) → Ready (length t) r → (s.refused ≡ false → node_row n ≡ r)
-    → Gives after x (add t r)
-holds-add {C} {rows} {after} {s} {t} {n} {x} w g a size r h same = go s.refused refl
-  where
-    go : (b : Bool) → s.refused ≡ b → Gives after x (add t r)
-    go true e =
-        let i = a.idle e in
-        let grows = ext_length (add_extends t r) in
-        let still : x.table.refused ≡ true = ap (λ (z : Table). z.refused) i.0 ∙ e in
-        record {
-          holds = record {
-            kept = λ f. absurd (no_false (sym f ∙ still));
-            over = λ _. omega (arith, g.over e, grows, ap length i.1);
-          };
-          row = λ f. absurd (no_false (sym f ∙ still));
-        }
-    go false e =
-        let z = same e in
-        rw z at (a.adds e C t w (g.kept e) (rw z h))
+-- R54: what an addition answers and leaves stands for the table after the rule's.
+pub holds-add : {C : ℕ} {s s' : Table} {t : List Row} {n : Node} {x : Answer K.Row} → Canonical C t → Stored s t
+    → Adds s n x s' → (r : Row) → Ready (length t) r → node_row n ≡ r → Gives s x s' (add t r)
+holds-add {C} {t = t} w g a r h same = rw same at (a.gives C t w g (rw same h))

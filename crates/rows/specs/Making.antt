@@ -1,69 +1,60 @@
--- Rows, and heads over them, made in a lent slice by the rules, refused or not.
-use Rattle.std.specs.Prelude.{ℕ, ◌≤◌, ◌≡◌, refl, Bool, true, false, List, length}
-use Rattle.std.proofs.Common.{ap, sym, ◌∙◌, arith}
+-- Rows, and heads over them, made in a lent slice by the rules.
+use Rattle.std.specs.Prelude.{ℕ, zero, suc, ◌≤◌, ◌≡◌, List, length}
+use Rattle.std.proofs.Common.{arith}
+use Rattle.std.proofs.Math.Decide.{dec_lt}
 use Rattle.rules.specs.Rows.{Row}
 use Rattle.rules.specs.Rows as R
-use Rattle.rules.specs.Sets.{Heads}
-use Rattle.laws.specs.Verdict.{no_false}
+use Rattle.rules.specs.Sets.{Heads, reaches, carry}
 use Rattle.laws.specs.Canonical.{Canonical}
 use Rattle.laws.specs.Rule.{Ready}
+use Rattle.laws.specs.Grow.{ext_length, grown_ext}
+use Rattle.laws.specs.After.{carry_row-grown}
+use Rattle.base.specs.Answers.{Answer}
+use Rattle.base.specs.declared.kinds.Row as K
 use Rattle.table.specs.declared.Table.{Table}
-use Rattle.rows.specs.Table.{Holds, Gives, Addable, Adds}
-use Rattle.rows.specs.Stored.{stored-length}
-use Rattle.rows.specs.declared.node.Node.{Node}
-use Rattle.rows.specs.declared.adding.Added.{Added}
+use Rattle.rows.specs.Table.{Stored, Ends, Gives, Addable}
+use Rattle.table.specs.Append.{Kept}
+use Rattle.rows.specs.Stored.{stored-length, ends-before}
 
--- A state stands for some canonical table of C cells.
-pub record Open (C : ℕ) (rows : List ℕ) (s : Table) : Type 0 where
+-- Some canonical table of C cells is stored.
+pub record Open (C : ℕ) (s : Table) : Type 0 where
   pub table : List Row
   pub canonical : Canonical C table
-  pub holds : Holds rows s table
+  pub stored : Stored s table
 
--- What a call leaves of a state, and the row that it answers, are what f makes of any table that the state stands for.
-abbrev pub Makes : ℕ → List ℕ → Table → (List Row → R.Added) → Added → List ℕ → Type 0
-Makes C rows s f x after = (t : List Row) → Canonical C t → Holds rows s t → Gives after x (f t)
+-- What a call leaves, and the row that it answers, are what f makes of any table that is stored.
+abbrev pub Makes : ℕ → Table → (List Row → R.Added) → Answer K.Row → Table → Type 0
+Makes C s f r s' = (t : List Row) → Canonical C t → Stored s t → Gives s r s' (f t)
 
--- A state with heads stands for the heads h of the rules: it stands for their table, and unless it is refused the heads are theirs.
-pub record Drawn (rows : List ℕ) (s : Table) (heads : List ℕ) (h : Heads) : Type 0 where
-  pub holds : Holds rows s h.tab
-  pub same : s.refused ≡ false → heads ≡ h.heads
+-- The table of the heads h of the rules is stored, and the heads are theirs.
+pub record Drawn (s : Table) (heads : List ℕ) (h : Heads) : Type 0 where
+  pub stored : Stored s h.tab
+  pub same : heads ≡ h.heads
+
+-- R53, R54: what a call answers and leaves stands for the heads h of the rules.
+abbrev pub Draws : {A : Type 0} → Table → Answer A → Table → List ℕ → Heads → Type 0
+Draws s r s' heads h = Ends s r h.tab (λ _. Drawn s' heads h)
+
+pub draws-before : {A : Type 0} {s₀ s : Table} → Kept s₀ s → (r : Answer A) (s' : Table) (heads : List ℕ) (h : Heads)
+    → Draws s r s' heads h → Draws s₀ r s' heads h
+draws-before k r s' heads h d = ends-before h.tab (λ _. Drawn s' heads h) k r d
 
 -- An operation over rows of the table can be added.
-pub addable : {rows : List ℕ} {s : Table} {t : List Row} → Holds rows s t → s.refused ≡ false → (r : Row) → Ready (length t) r
-    → Addable rows s.used r
-addable h f r ready =
-    let k = h.kept f in
-    record { held = k.held; ready = rw (stored-length k) at ready }
+pub addable : {s : Table} {t : List Row} → Stored s t → (r : Row) → Ready (length t) r → Addable s r
+addable w r ready = record { held = w.held; ready = rw (stored-length w) at ready }
 
--- ---- refused or not
-
--- A table that was refused stays so.
-pub add-still : {rows after : List ℕ} {s : Table} {n : Node} {x : Added} → Adds rows s n x after → s.refused ≡ true
-    → x.table.refused ≡ true
-add-still a q = ap (λ (t : Table). t.refused) (a.idle q).0 ∙ q
-
--- Where what was refused stays so, what is not refused now was not refused before.
-pub open_before : {b z : Bool} → (b ≡ true → z ≡ true) → z ≡ false → b ≡ false
-open_before {b} {z} still f = go b refl
-  where
-    go : (a : Bool) → b ≡ a → a ≡ false
-    go true q = sym (still q) ∙ f
-    go false q = refl
-
--- A state that is not refused was not refused while its table was smaller.
-pub open_smaller : {rows after : List ℕ} {s z : Table} {t u : List Row} → Holds rows s t → Holds after z u → length t ≤ length u
-    → length after ≡ length rows → z.refused ≡ false → s.refused ≡ false
-open_smaller {s = s} g h l size f = go s.refused refl
-  where
-    go : (b : Bool) → s.refused ≡ b → b ≡ false
-    go true e = absurd (omega (arith, g.over e, (h.kept f).held, stored-length (h.kept f)))
-    go false e = refl
-
--- A state that stays refused stands for any table that is no shorter, and its heads for any.
-pub over-more : {rows after : List ℕ} {s z : Table} {t u : List Row} → Holds rows s t → s.refused ≡ true → z.refused ≡ true
-    → length after ≡ length rows → length t ≤ length u → Holds after z u
-over-more h e q size l = record { kept = λ f. absurd (no_false (sym f ∙ q)); over = λ _. omega (arith, h.over e, size) }
-
-pub drawn-over : {rows : List ℕ} {s : Table} {t : List Row} {heads : List ℕ} {h : Heads} → Holds rows s t → s.refused ≡ true
-    → length t ≤ length h.tab → Drawn rows s heads h
-drawn-over g e l = record { holds = over-more g e e refl l; same = λ f. absurd (no_false (sym f ∙ e)) }
+-- R34: rows that are carried one after another only grow the table.
+pub carry-longer : (t : List Row) (x : List ℕ) (u : List Row) (y : List ℕ) (j k : ℕ) → j ≤ k
+    → length (carry R.add t x u y j).tab ≤ length (carry R.add t x u y k).tab
+unfolding carry
+carry-longer t x u y j zero h =
+    let z : j ≡ 0 = omega arith in
+    rw z (omega arith)
+carry-longer t x u y j (suc k) h = elim (dec_lt j (suc k)) [
+  | yes l ↦
+      let one = ext_length (grown_ext (carry_row-grown x (carry R.add t x u y k) (R.row_at u k) (reaches u y k))) in
+      omega (arith, carry-longer t x u y j k (omega arith), one)
+  | no l ↦
+      let z : j ≡ suc k = omega arith in
+      rw z (omega arith)
+]

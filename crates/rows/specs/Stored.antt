@@ -1,16 +1,19 @@
 -- Laws of a table in a lent slice: its rows, and appending to it.
-use Rattle.std.specs.Prelude.{ℕ, ◌+◌, ◌≤◌, ◌<◌, ◌≡◌, refl, Bool, true, false, List, [], ◌∷◌, ◌++◌, map, length, get_or, take, set}
-use Rattle.std.proofs.Common.{ap, sym, ◌∙◌, arith, add-one, length-append, length-set, length-take-le, get_or-take, take-suc, take_all, take-suc-set, get_or-set_same, get_or-set_other}
+use Rattle.std.specs.Prelude.{Ok, Err}
+use Rattle.std.specs.Prelude.{ℕ, ◌+◌, ◌≤◌, ◌<◌, ◌≡◌, refl, List, [], ◌∷◌, ◌++◌, map, length, get_or, take, set}
+use Rattle.std.proofs.Common.{ap, sym, ◌∙◌, arith, add-one, length-set, length-take-le, get_or-take, take-suc, take_all, take-suc-set, get_or-set_same, get_or-set_other}
 use Rattle.std.proofs.lemmas.List.{map-append, length-map}
 use Rattle.std.proofs.Math.Decide.{dec_lt}
 use Rattle.std.proofs.Math.ListN.{get_or-map}
 use Rattle.rules.specs.Room.{room}
 use Rattle.rules.specs.Rows.{Row, leaf, row_at}
-use Rattle.laws.specs.Verdict.{no_false}
+use Rattle.base.specs.Answers.{Answer}
+use Rattle.base.specs.declared.refusal.Refusal.{Refusal}
+use Rattle.base.specs.declared.refusal.Refusal.TheVariants.{NoRoom}
 use Rattle.table.specs.declared.Table.{Table}
-use Rattle.table.specs.Append.{Appends, table_more, rows_more, table-full, rows-full}
+use Rattle.table.specs.Append.{Kept, More, Full}
 use Rattle.rows.specs.Entries.{entry, row_of_entry, table_in, Narrow, entry-back}
-use Rattle.rows.specs.Table.{Stored, Holds, Filled}
+use Rattle.rows.specs.Table.{Stored, Exceeds, Ends}
 
 -- ---- the rows of a slice
 
@@ -25,93 +28,69 @@ table-length rows used h = length-map (take used rows) row_of_entry ∙ length-t
 pub table-row : (rows : List ℕ) (used i : ℕ) → i < used → row_at (table_in rows used) i ≡ row_of_entry (get_or rows i 0)
 table-row rows used i h = slice_row (take used rows) i ∙ ap row_of_entry (get_or-take used rows i 0 h)
 
--- What a slice of rows stores, row by row.
-module _ {rows : List ℕ} {used : ℕ} {t : List Row} (s : Stored rows used t) where
-  pub stored-length : length t ≡ used
-  stored-length = ap length (sym s.table) ∙ table-length rows used (omega (arith, s.held))
+-- What a table stores, row by row.
+module _ {s : Table} {t : List Row} (w : Stored s t) where
+  pub stored-length : length t ≡ s.used
+  stored-length = ap length (sym w.table) ∙ table-length s.rows.now s.used (omega (arith, w.held))
 
-  pub stored_row : (i : ℕ) → i < used → row_at t i ≡ row_of_entry (get_or rows i 0)
-  stored_row i h = ap (λ u. row_at u i) (sym s.table) ∙ table-row rows used i h
+  pub stored_row : (i : ℕ) → i < s.used → row_at t i ≡ row_of_entry (get_or s.rows.now i 0)
+  stored_row i h = ap (λ u. row_at u i) (sym w.table) ∙ table-row s.rows.now s.used i h
 
--- ---- appending
+  -- A longer table has more rows than there is room for where no row is left.
+  pub exceeds-full : {s' : Table} {x : Refusal} {u : List Row} → Full s x s' → length t < length u → Exceeds s x u
+  exceeds-full f l = record { place = f.place; more = omega (arith, f.none, stored-length, l) }
 
--- R53, R54: a row's number appended: the state stands for the table with that row, or is refused.
-module _ {rows rows' : List ℕ} {s s' : Table} {t : List Row} {e : ℕ} (g : Holds rows s t) (q : Row)
-    (made : (e ≡ entry q) × Narrow q) (a : Appends rows s e s' rows') where
-  longer : length (t ++ (q ∷ [])) ≡ length t + 1
-  longer = length-append t (q ∷ [])
+  -- R53: a row's number appended.
+  pub stored_more : {s' : Table} {e : ℕ} (q : Row) → (e ≡ entry q) × Narrow q → More s e s' → Stored s' (t ++ (q ∷ []))
+  stored_more {e = e} q made m =
+      let back : row_of_entry e ≡ q = ap row_of_entry made.0 ∙ entry-back q made.1 in
+      let size : length (set s.rows.now s.used e) ≡ length s.rows.now = length-set s.rows.now s.used e in
+      record {
+        held = rw (m.used, m.stored, size) (omega (arith, m.left));
+        table = rw (m.used, m.stored, add-one, take-suc-set s.rows.now s.used e (omega (arith, m.left)), map-append, w.table, back);
+        entries = rw (m.used, m.stored) (λ i k. elim (dec_lt i s.used) [
+          | yes p ↦ rw (get_or-set_other s.rows.now s.used i e 0 (omega arith)) (w.entries i p)
+          | no p ↦
+              let v : i ≡ s.used = omega arith in
+              rw (v, get_or-set_same s.rows.now s.used e 0 (omega (arith, m.left)), back) (sym made.0)
+        ]);
+      }
 
-  back : row_of_entry e ≡ q
-  back = ap row_of_entry made.0 ∙ entry-back q made.1
+-- Where no row is left for t, none is for a longer table, nor was any before.
+pub exceeds-more : {s₀ s : Table} {x : Refusal} {t u : List Row} → Kept s₀ s → Exceeds s x t → length t ≤ length u → Exceeds s₀ x u
+exceeds-more k o l = record { place = o.place ∙ ap (λ n. NoRoom (room n)) k.size; more = omega (arith, k.size, o.more, l) }
 
-  -- A row is left.
-  stored_more : s.used < room (length rows) → Stored rows s.used t → Stored (set rows s.used e) (s.used + 1) (t ++ (q ∷ []))
-  stored_more h w = record {
-    held = rw length-set (omega arith);
-    table = rw (add-one, take-suc-set rows s.used e (omega arith), map-append, w.table, back);
-    entries = λ i k. elim (dec_lt i s.used) [
-      | yes p ↦ rw (get_or-set_other rows s.used i e 0 (omega arith)) (w.entries i (omega arith))
-      | no p ↦
-          let v : i ≡ s.used = omega arith in
-          rw (v, get_or-set_same rows s.used e 0 (omega arith), back) (sym made.0)
-    ];
-  }
+-- What a call leaves and answers stands for a table after what was kept before it, too.
+pub ends-before : {A : Type 0} {s₀ s : Table} (t : List Row) (P : A → Type 0) → Kept s₀ s → (r : Answer A) → Ends s r t P
+    → Ends s₀ r t P
+ends-before t P k (Ok x) p = p
+ends-before t P k (Err e) o = exceeds-more k o (omega arith)
 
-  pub holds-append : Holds rows' s' (t ++ (q ∷ []))
-  holds-append = elim (dec_lt s.used (room (length rows))) [
-    | yes h ↦
-        let z = a.state ∙ table_more rows s h in
-        let u = a.stored ∙ rows_more rows s h e in
-        rw (z, u) (record {
-          kept = λ f. stored_more h (g.kept f);
-          over = λ f. rw length-set (omega (arith, longer, g.over f));
-        })
-    | no h ↦
-        let z = a.state ∙ table-full rows s (omega arith) in
-        let u = a.stored ∙ rows-full rows s (omega arith) e in
-        rw (z, u) (record { kept = λ f. absurd (no_false (sym f)); over = λ _. full (omega arith) s.refused refl })
-  ]
-    where
-      full : room (length rows) ≤ s.used → (b : Bool) → s.refused ≡ b → room (length rows) < length (t ++ (q ∷ []))
-      full h true f = omega (arith, longer, g.over f)
-      full h false f = omega (arith, longer, stored-length (g.kept f))
+pub kept_refl : (s : Table) → Kept s s
+kept_refl s = record { same = refl; size = refl }
+
+pub kept_trans : {s s' s'' : Table} → Kept s s' → Kept s' s'' → Kept s s''
+kept_trans k m = record { same = m.same ∙ k.same; size = m.size ∙ k.size }
 
 -- ---- the rows of a table, appended one after another
 
--- The first i rows of t were appended to an empty table, in a slice that keeps its length.
-pub record Filling (t : List Row) (rows₀ rows : List ℕ) (s : Table) (i : ℕ) : Type 0 where
-  pub size : length rows ≡ length rows₀
-  pub holds : Holds rows s (take i t)
+-- The first i rows of t were appended to an empty table.
+pub record Filling (t : List Row) (s₀ s : Table) (i : ℕ) : Type 0 where
+  pub kept : Kept s₀ s
+  pub stored : Stored s (take i t)
 
-pub filling_none : (t : List Row) (rows : List ℕ) → Filling t rows rows (record { used = 0; refused = false }) 0
-filling_none t rows = record {
-  size = refl;
-  holds = record {
-    kept = λ _. record { held = omega arith; table = refl; entries = λ i k. absurd (omega arith) };
-    over = λ f. absurd (no_false f);
-  };
+pub filling_next : {t : List Row} {s₀ s s' : Table} {i e : ℕ} → Filling t s₀ s i → i < length t
+    → (e ≡ entry (row_at t i)) × Narrow (row_at t i) → Kept s s' → More s e s' → Filling t s₀ s' (i + 1)
+filling_next {t} {i = i} g h made k m = record {
+  kept = kept_trans g.kept k;
+  stored = rw (add-one, take-suc t i (leaf 0) h) (stored_more g.stored (row_at t i) made m);
 }
 
-pub filling_next : {t : List Row} {rows₀ rows rows' : List ℕ} {s s' : Table} {i e : ℕ} → Filling t rows₀ rows s i → i < length t
-    → (e ≡ entry (row_at t i)) × Narrow (row_at t i) → Appends rows s e s' rows' → length rows' ≡ length rows
-    → Filling t rows₀ rows' s' (i + 1)
-filling_next {t} {i = i} g h made a kept = record {
-  size = kept ∙ g.size;
-  holds = rw (add-one, take-suc t i (leaf 0) h) (holds-append g.holds (row_at t i) made a);
-}
-
-pub filling_all : {t : List Row} {rows₀ rows : List ℕ} {s : Table} {i : ℕ} → Filling t rows₀ rows s i → (used : ℕ)
-    → used ≡ length t → used ≤ i → used ≤ room (length rows₀) → Filled rows s used t
-filling_all {t} {rows₀} {rows} {s} {i} g used e h r = go s.refused refl
+pub filling_over : {t : List Row} {s₀ s s' : Table} {i : ℕ} {x : Refusal} → Filling t s₀ s i → i < length t → Full s x s' → Exceeds s₀ x t
+filling_over {t} {i = i} g h f = exceeds-more g.kept (exceeds-full g.stored f l) (omega arith)
   where
-    w : Holds rows s t
-    w = rw (take_all i t (omega arith)) at g.holds
+    l : length (take i t) < length t
+    l = omega (arith, length-take-le i t)
 
-    go : (b : Bool) → s.refused ≡ b → Filled rows s used t
-    go true f = absurd (omega (arith, w.over f, g.size))
-    go false f =
-        let z : s.used ≡ used = sym (stored-length (w.kept f)) ∙ sym e in
-        record { stored = rw z at (w.kept f); state = λ k. record { used = z k; refused = f k } }
-
-pub filled-holds : {rows : List ℕ} {s : Table} {used : ℕ} {t : List Row} → Filled rows s used t → Holds rows s t
-filled-holds f = rw f.state (record { kept = λ _. f.stored; over = λ g. absurd (no_false g) })
+pub filling_all : {t : List Row} {s₀ s : Table} {i : ℕ} → Filling t s₀ s i → length t ≤ i → Stored s t
+filling_all {t} {i = i} g h = rw (take_all i t h) at g.stored

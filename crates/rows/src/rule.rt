@@ -17,10 +17,10 @@ pub enum Plan {
 pub fn plan_not(a: Row, node: Node) -> Plan
     ensures { plan_row result ≡ R.plan_not a.0 (node_row node) }
 {
-    if a.0 == 0 {
+    if a == Row::FALSE {
         return Plan::Have(Row::TRUE);
     }
-    if a.0 == 1 {
+    if a == Row::TRUE {
         return Plan::Have(Row::FALSE);
     }
     match node {
@@ -48,32 +48,29 @@ fn neutral(o: bool) -> Row
 fn make_two(o: bool, a: Row, b: Row) -> Node
     ensures { node_row result ≡ R.bin o (min a.0 b.0) (max a.0 b.0) }
 {
-    if a.0 < b.0 {
-        Node::Two(o, a, b)
-    } else {
-        Node::Two(o, b, a)
-    }
+    Node::Two(o, a.min(b), a.max(b))
 }
 
 // R29: AND or OR of the rows a and b.
+#[tactic(auto, unfolding(rules::specs::Rows::plan_bin))]
 pub fn plan_two(o: bool, a: Row, b: Row) -> Plan
     ensures { (p q : R.Row) → plan_row result ≡ R.plan_bin o a.0 p b.0 q }
 {
     let decides = absorbing(o);
     let leaves = neutral(o);
-    if a.0 == decides.0 {
+    if a == decides {
         return Plan::Have(a);
     }
-    if b.0 == decides.0 {
+    if b == decides {
         return Plan::Have(b);
     }
-    if a.0 == leaves.0 {
+    if a == leaves {
         return Plan::Have(b);
     }
-    if b.0 == leaves.0 {
+    if b == leaves {
         return Plan::Have(a);
     }
-    if a.0 == b.0 {
+    if a == b {
         return Plan::Have(a);
     }
     Plan::Make(make_two(o, a, b))

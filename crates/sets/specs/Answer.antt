@@ -1,5 +1,5 @@
 -- The answer to a set file: the header's, or that of what follows; what it tells a caller; and that there is one only.
-use Rattle.std.specs.Prelude.{ℕ, ◌+◌, ◌≤◌, ◌≡◌, refl, Bool, true, false, List, length, ltb}
+use Rattle.std.specs.Prelude.{ℕ, ◌+◌, ◌≤◌, ◌≡◌, Ok, Err, refl, Bool, true, false, List, length, ltb}
 use Rattle.std.proofs.Math.Path.{sym}
 use Rattle.std.proofs.Common.{ap, ◌∙◌, arith}
 use Rattle.rules.specs.Verdict.{Verdict, granted, refused, refuse_if, ◌>>=◌}
@@ -9,15 +9,11 @@ use Rattle.rules.specs.SetFile.{TransferSet, leaves, row_place, check_rows, read
 use Rattle.laws.specs.Verdict.{bind_granted}
 use Rattle.laws.specs.Shape.{header-granted}
 use Rattle.laws.specs.SetFile.{Accepted, read-accepted}
-use Rattle.base.specs.Answers.{shape_of, refused_by}
+use Rattle.base.specs.Answers.{Answer, shape_of, refused_by, verdict_of}
 use Rattle.base.specs.declared.shape.Shape.{Shape}
 use Rattle.base.specs.declared.refusal.Refusal.{Refusal}
-use Rattle.program.specs.declared.Checked.{Checked}
-use Rattle.program.specs.declared.Checked.TheVariants.{Granted}
-use Rattle.program.specs.declared.header.Headed.{Headed}
-use Rattle.program.specs.declared.header.Headed.TheVariants as H
-use Rattle.program.specs.Check.{answer_of, answer_back}
-use Rattle.program.specs.Stages.{checked_verdict, head_verdict}
+use Rattle.base.specs.Refusals.{answer_only}
+use Rattle.program.specs.Stages.{header_verdict}
 use Rattle.sets.specs.Judging.{set_verdict, rest_verdict}
 use Rattle.sets.specs.Spelt.{rows_in, set_with}
 
@@ -33,19 +29,19 @@ chain false false true i j k p q s v z = refl
 chain false false false i j k p q s (granted u) z = refl
 chain false false false i j k p q s (refused n m) z = refl
 
-module _ (file : List ℕ) (r : Headed) (h : head_verdict r ≡ R.read_header old 2 file) where
+module _ (file : List ℕ) (r : Answer Shape) (h : header_verdict r ≡ R.read_header old 2 file) where
   -- R49: a header that is refused is the answer.
-  pub set-header : (x : Refusal) → r ≡ H.Refused x → refused_by x ≡ set_verdict file
+  pub set-header : (x : Refusal) → r ≡ Err x → refused_by x ≡ set_verdict file
   unfolding set_verdict read_set
   set-header x z = rw (← h, z)
 
-  module _ (s : Shape) (z : r ≡ H.With s) where
+  module _ (s : Shape) (z : r ≡ Ok s) where
     -- R7: a header that was read is whole.
     pub set_long : 7 ≤ length file
     set_long = (header-granted old 2 file (shape_of s) (sym (rw z at h))).long
 
     -- R49: after a header that was read, the rest gives the answer.
-    pub set_rest : (k : Checked) → checked_verdict k ≡ rest_verdict file (shape_of s) → checked_verdict k ≡ set_verdict file
+    pub set_rest : (k : Answer (Unit {0})) → verdict_of k ≡ rest_verdict file (shape_of s) → verdict_of k ≡ set_verdict file
     unfolding set_verdict read_set rest_verdict
     set_rest k c =
         let sh = shape_of s in
@@ -57,11 +53,11 @@ module _ (file : List ℕ) (r : Headed) (h : head_verdict r ≡ R.read_header ol
 -- ---- what an answer tells
 
 -- R49: a file whose check is granted has been checked whole.
-pub set-accepted : (file : List ℕ) (r : Checked) → checked_verdict r ≡ set_verdict file → r ≡ Granted
+pub set-accepted : (file : List ℕ) (r : Answer (Unit {0})) → verdict_of r ≡ set_verdict file → r ≡ Ok tt
     → Accepted old file (R.shape_at old file) (rows_in file)
 unfolding set_verdict
 set-accepted file r c g =
-    let read = bind_granted (read_set old file) (λ _. granted tt) (sym c ∙ ap checked_verdict g) in
+    let read = bind_granted (read_set old file) (λ _. granted tt) (sym c ∙ ap verdict_of g) in
     let (sh, n, a, is) = read-accepted old file read.0 read.1 in
     let shape : R.shape_at old file ≡ sh = (header-granted old 2 file sh a.header).is in
     rw (shape, a.counted) a
@@ -81,6 +77,6 @@ set-refused file n p = go (read_set old file)
         rw (x, y) refl
 
 -- R46, R47: two answers that meet the contract for the same file are the same answer.
-pub check_set_only : (file : List ℕ) (r r' : Checked) → checked_verdict r ≡ set_verdict file → checked_verdict r' ≡ set_verdict file
+pub check_set_only : (file : List ℕ) (r r' : Answer (Unit {0})) → verdict_of r ≡ set_verdict file → verdict_of r' ≡ set_verdict file
     → r ≡ r'
-check_set_only file r r' p q = sym (answer_back r) ∙ ap answer_of (p ∙ sym q) ∙ answer_back r'
+check_set_only file = answer_only (set_verdict file)

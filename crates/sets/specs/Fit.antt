@@ -1,5 +1,5 @@
 -- Whether a row fits: a law for each answer of the code.
-use Rattle.std.specs.Prelude.{ℕ, suc, ◌+◌, ◌*◌, ◌-◌, ◌≤◌, ◌<◌, ◌≡◌, Bool, true, false, cond, not, ◌&&◌, List, length, get_or, ltb, eqb}
+use Rattle.std.specs.Prelude.{ℕ, suc, ◌+◌, ◌*◌, ◌-◌, ◌≤◌, ◌<◌, ◌≡◌, Bool, true, false, cond, not, ◌&&◌, List, get_or, ltb, eqb}
 use Rattle.std.proofs.Math.Path.{refl}
 use Rattle.std.proofs.Common.{sym, ap, ◌∙◌, arith}
 use Rattle.std.proofs.Math.Bool.{and-true}
@@ -8,7 +8,7 @@ use borrow.Author.Tests.{lt-ltb, le-ltb, eq-eqb, ne_eqb, eqb-true, not-true, not
 use Rattle.rules.specs.Edition.{old}
 use Rattle.rules.specs.Lists.{number_at}
 use Rattle.rules.specs.Shape.{Shape}
-use Rattle.rules.specs.Rows.{Row, leaf, inv, bin, row_at, kind, left, right, same, Plan, have, make, plan_not, plan_bin, plan, find}
+use Rattle.rules.specs.Rows.{Row, leaf, inv, bin, row_at, kind, left, right, same, Plan, make, plan_not, plan, find}
 use Rattle.rules.specs.Sets.{operands}
 use Rattle.rules.specs.SetFile.{leaves, row_place, row_of, row_in, all_below, makes, fits}
 use Rattle.laws.specs.Verdict.{both_true}
@@ -18,8 +18,10 @@ use Rattle.laws.specs.Rows.{same_true, same_refl, find_first, find_at}
 use Rattle.laws.specs.Fits.{all_below_lem, makes_true, fits_true}
 use Rattle.laws.specs.Rule.{made-ready}
 use Rattle.laws.specs.Search.{none_to_last}
-use Rattle.sets.specs.Spelt.{sized_inside, spelt_row, row-leaf, row-bytes, spelt-row, spelt-length}
-use Rattle.sets.specs.Judging.{Whole, Among, Made, same_at}
+use Rattle.sets.specs.Spelt.{row-leaf, row-bytes, spelt-row}
+use Rattle.base.specs.Answers.{shape_of}
+use Rattle.sets.specs.declared.read.SetFile.{SetFile}
+use Rattle.sets.specs.Judging.{spells, spells-rows, Made, same_at}
 use Rattle.sets.specs.Spelt.{rows_in, set_with}
 
 -- Tests that hold together are the same.
@@ -50,22 +52,8 @@ module _ (k : ℕ) (r : Row) where
 
 -- ---- the plan
 
-pub not_low : (k a : ℕ) (r : Row) → r ≡ inv a → Below k r → a < k
-not_low k a r e b = rw e at b
-
-module _ (file : List ℕ) (sh : Shape) (r : Row) (p : Plan) where
-  pub plan-leaf : (i : ℕ) → r ≡ leaf i → p ≡ have i → p ≡ plan (set_with file sh).tab r
-  plan-leaf i e q = rw (e, q) refl
-
-  pub plan-inv : (a : ℕ) (x : Row) → r ≡ inv a → Below (leaves sh + rows_in file) r → x ≡ spelt_row file sh a → p ≡ plan_not a x
-      → p ≡ plan (set_with file sh).tab r
-  plan-inv a x e b y q = rw e (q ∙ ap (plan_not a) (y ∙ sym (spelt-row file sh (rows_in file) a (not_low _ a r e b))))
-
-  pub plan-bin : (o : Bool) (a b : ℕ) → r ≡ bin o a b → ((x y : Row) → p ≡ plan_bin o a x b y) → p ≡ plan (set_with file sh).tab r
-  plan-bin o a b e q = rw e (q (row_at (set_with file sh).tab a) (row_at (set_with file sh).tab b))
-
-pub makes-made : (p : Plan) (q r : Row) (d : Bool) → p ≡ make q → d ≡ same q r → d ≡ makes p r
-makes-made p q r d e f = rw e f
+pub plan-inv : (t : List Row) (r : Row) (p : Plan) (a : ℕ) (x : Row) → r ≡ inv a → x ≡ row_at t a → p ≡ plan_not a x → p ≡ plan t r
+plan-inv t r p a x e y q = rw e (q ∙ ap (plan_not a) y)
 
 -- ---- equal bytes
 
@@ -151,17 +139,15 @@ module _ (file : List ℕ) (sh : Shape) (i : ℕ) where
       → row_at (set_with file sh).tab i ≡ row_in file (row_place old sh (i - leaves sh))
   at-bytes h l = spelt-row file sh (rows_in file) i l ∙ sym (row-bytes file sh i h)
 
-module _ (file : List ℕ) (sh : Shape) (w : Whole file sh) (k : ℕ) (m : Among file sh k) where
-  -- The row that was read is row k.
-  pub here : (r : Row) → r ≡ spelt_row file sh k → r ≡ row_at (set_with file sh).tab k
-  here r e = e ∙ sym (spelt-row file sh (rows_in file) k m.low)
+module _ (s : SetFile) (k last : ℕ) (d : Made s k last) where
+  abbrev file : List ℕ
+  file = s.file.now
 
-  pub inside : leaves sh ≤ k → row_place old sh (k - leaves sh) + 5 ≤ length file
-  inside = sized_inside file sh (rows_in file) k w m.low
+  abbrev sh : Shape
+  sh = shape_of s.shape
 
-module _ (file : List ℕ) (sh : Shape) (k last : ℕ) (d : Made file sh k last) where
   abbrev t : List Row
-  t = (set_with file sh).tab
+  t = (spells s).tab
 
   operation : 1 ≤ kind (row_at t k)
   operation = made-kind t (row_at t k) d.made
@@ -193,7 +179,7 @@ module _ (file : List ℕ) (sh : Shape) (k last : ℕ) (d : Made file sh k last)
         let i = leaves sh + j in
         let u : first + 5 * j ≡ row_place old sh (i - leaves sh) = omega arith in
         let v : at ≡ row_place old sh (k - leaves sh) = omega (arith, d.among.high) in
-        let s : same (row_at t i) (row_at t k) ≡ true = bytes i (omega arith) (omega (arith, d.among.high))
+        let e : same (row_at t i) (row_at t k) ≡ true = bytes i (omega arith) (omega (arith, d.among.high))
         ∙ rw (← u, ← v) q in
         sym (ne_eqb (find t (row_at t k)) k λ g.
         let o = find_first t (row_at t k) i (omega (arith, d.among.high)) in
@@ -203,8 +189,8 @@ module _ (file : List ℕ) (sh : Shape) (k last : ℕ) (d : Made file sh k last)
     -- R43: none.
     pub none_found : (j j₀ : ℕ) → n ≤ j → j₀ ≡ suc last - leaves sh → Searching (λ i. same_at file (first + 5 * i) at) j₀ j
         → true ≡ eqb (find t (row_at t k)) k
-    none_found j j₀ h g s =
-        sym (eq-eqb (find t (row_at t k)) k (find_at t k (omega (arith, d.among.low, spelt-length file sh (rows_in file))) none))
+    none_found j j₀ h g f =
+        sym (eq-eqb (find t (row_at t k)) k (find_at t k (omega (arith, d.among.low, spells-rows s)) none))
       where
         differs : (i : ℕ) → i < k → same (row_at t i) (row_at t k) ≡ false
         differs i l = elim (dec_lt i (leaves sh + (suc last - leaves sh))) [
@@ -212,7 +198,7 @@ module _ (file : List ℕ) (sh : Shape) (k last : ℕ) (d : Made file sh k last)
           | no q ↦
               let u : first + 5 * (i - leaves sh) ≡ row_place old sh (i - leaves sh) = omega arith in
               let v : at ≡ row_place old sh (k - leaves sh) = omega (arith, d.among.high) in
-              bytes i (omega arith) l ∙ rw (← u, ← v) (s.none (i - leaves sh) (omega arith) (omega arith))
+              bytes i (omega arith) l ∙ rw (← u, ← v) (f.none (i - leaves sh) (omega arith) (omega arith))
         ]
 
         none : (i : ℕ) → i < k → row_at t i ≡ row_at t k → ⊥

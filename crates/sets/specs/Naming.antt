@@ -10,30 +10,27 @@ use Rattle.rules.specs.Lists.{number_at, elem}
 use Rattle.rules.specs.Shape.{Shape, cells}
 use Rattle.rules.specs.Rows.{Row, leaf, inv, bin, row_at}
 use Rattle.rules.specs.Sets.{operands}
-use Rattle.rules.specs.SetFile.{leaves, head_at, row_place, row_of, row_in, named}
+use Rattle.rules.specs.SetFile.{leaves, row_place, row_of, row_in, named}
 use Rattle.laws.specs.Lists.{elem-append, elem_at, Searching}
 use Rattle.laws.specs.Named.{named-row}
 use Rattle.laws.specs.Search.{elem-none, operands-none}
-use Rattle.sets.specs.Spelt.{spelt-length, spelt-head, spelt-heads}
+use Rattle.sets.specs.Spelt.{rows_in}
 use Rattle.sets.specs.Fit.{at-bytes}
-use Rattle.sets.specs.Judging.{Among}
-use Rattle.sets.specs.Spelt.{rows_in, set_with}
+use Rattle.base.specs.Answers.{shape_of}
+use Rattle.sets.specs.declared.read.SetFile.{SetFile}
+use Rattle.sets.specs.Judging.{spells, spells-rows, spells-heads, Among}
 
 -- ---- heads
 
-module _ (file : List ℕ) (sh : Shape) (k : ℕ) where
-  pub head-is : (c : ℕ) → c < cells sh → number_at 2 file (head_at old c) ≡ k → true ≡ elem k (set_with file sh).heads
-  head-is c h e =
-      let x = (set_with file sh).heads in
-      let p : get_or x c 0 ≡ k = spelt-head file sh (rows_in file) c h ∙ e in
-      sym (rw p at (elem_at x c 0 (omega (arith, spelt-heads file sh (rows_in file)))))
+module _ (s : SetFile) (k c : ℕ) where
+  abbrev x : List ℕ
+  x = (spells s).heads
 
-  pub head-none : (c : ℕ) → cells sh ≤ c → Searching (λ c. eqb k (number_at 2 file (head_at old c))) 0 c
-      → false ≡ elem k (set_with file sh).heads
-  head-none c h s =
-      let n = spelt-heads file sh (rows_in file) in
-      sym (elem-none k (set_with file sh).heads λ d l. ap (eqb k) (spelt-head file sh (rows_in file) d (omega arith))
-      ∙ s.none d (omega arith) (omega arith))
+  pub head-is : c < cells (shape_of s.shape) → get_or x c 0 ≡ k → true ≡ elem k x
+  head-is h e = sym (rw e at (elem_at x c 0 (omega (arith, spells-heads s))))
+
+  pub head-none : cells (shape_of s.shape) ≤ c → Searching (λ c. eqb k (get_or x c 0)) 0 c → false ≡ elem k x
+  head-none h f = sym (elem-none k x λ d l. f.none d (omega arith) (omega (arith, spells-heads s)))
 
 -- ---- operands
 
@@ -72,10 +69,16 @@ names-none file p k a b e f g h = rw (← e, ← f) (sym (names_other k (get_or 
 
 -- ---- later rows
 
-module _ (file : List ℕ) (sh : Shape) (k : ℕ) (m : Among file sh k) (first rows : ℕ)
-    (x : first ≡ row_place old sh 0) (y : rows ≡ rows_in file) where
+module _ (s : SetFile) (k : ℕ) (m : Among s k) (first rows : ℕ)
+    (x : first ≡ row_place old (shape_of s.shape) 0) (y : rows ≡ rows_in s.file.now) where
+  abbrev file : List ℕ
+  file = s.file.now
+
+  abbrev sh : Shape
+  sh = shape_of s.shape
+
   abbrev t : List Row
-  t = (set_with file sh).tab
+  t = (spells s).tab
 
   row-at : (j : ℕ) → j < rows → row_at t (leaves sh + j) ≡ row_in file (first + 5 * j)
   row-at j h =
@@ -86,21 +89,21 @@ module _ (file : List ℕ) (sh : Shape) (k : ℕ) (m : Among file sh k) (first r
       → true ≡ elem k (flat_map operands (drop (suc k) t))
   unfolding named
   operand-is j h l e =
-      let n = spelt-length file sh (rows_in file) in
+      let n = spells-rows s in
       sym (named-row t [] k (leaves sh + j) (omega (arith, m.high)) (omega arith) (rw (row-at j l) e))
 
   pub operand-none : (j j₀ : ℕ) → rows ≤ j → j₀ ≡ suc k - leaves sh
       → Searching (λ j. elem k (operands (row_in file (first + 5 * j)))) j₀ j
       → false ≡ elem k (flat_map operands (drop (suc k) t))
-  operand-none j j₀ h g s = sym (operands-none k (drop (suc k) t) none)
+  operand-none j j₀ h g f = sym (operands-none k (drop (suc k) t) none)
     where
       none : (i : ℕ) → i < length (drop (suc k) t) → elem k (operands (row_at (drop (suc k) t) i)) ≡ false
       none i l =
-          let q : suc k + i - leaves sh < rows = omega (arith, m.high, length-drop (suc k) t, spelt-length file sh (rows_in file)) in
+          let q : suc k + i - leaves sh < rows = omega (arith, m.high, length-drop (suc k) t, spells-rows s) in
           let z : suc k + i ≡ leaves sh + (suc k + i - leaves sh) = omega (arith, m.high) in
           let at : row_at (drop (suc k) t) i ≡ row_in file (first + 5 * (suc k + i - leaves sh)) = get_or-drop (suc k) t i (leaf 0)
           ∙ ap (row_at t) z ∙ row-at (suc k + i - leaves sh) q in
-          ap (λ r. elem k (operands r)) at ∙ s.none (suc k + i - leaves sh) (omega (arith, m.high)) (omega arith)
+          ap (λ r. elem k (operands r)) at ∙ f.none (suc k + i - leaves sh) (omega (arith, m.high)) (omega arith)
 
 -- ---- a head or a later row
 

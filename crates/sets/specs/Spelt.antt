@@ -128,6 +128,10 @@ total_is file shape C k p c q =
     let z : C ≡ cells (shape_at old file) = c ∙ ap cells p in
     omega (arith, spelt-length file (shape_at old file) (rows_in file))
 
+-- R41: a file of a shape is as long as its count says, and counts few enough rows.
+abbrev pub Whole : List ℕ → Shape → Type 0
+Whole file sh = Sized file sh (rows_in file)
+
 -- R49: the file is accepted.
 abbrev pub Taken : List ℕ → Type 0
 Taken file = Accepted old file (shape_at old file) (rows_in file)

@@ -6,13 +6,11 @@ ghost use Rattle.rules.specs.SetFile as F;
 ghost use Rattle.laws.specs.Canonical.{Below};
 ghost use Rattle.base.specs.Answers.{shape_of};
 ghost use Rattle.rows.specs.Entries.{node_row, plan_row};
-ghost use Rattle.sets.specs.Judging.{Whole, Among, FitBefore, Made, same_at};
-ghost use Rattle.sets.specs.Spelt.{rows_in, set_with};
+ghost use Rattle.sets.specs.Judging.{spells, rows_of, Among, FitBefore, Made, same_at};
 
-use crate::read::{row_in, row_place};
+use crate::read::SetFile;
 use base::bytes::word;
 use base::kinds::Row;
-use base::shape::Shape;
 use rows::node::{Node, last_operand, same_node};
 use rows::rule::{Plan, plan_not, plan_two};
 
@@ -28,14 +26,13 @@ fn earlier(node: Node, k: Row) -> bool
 }
 
 // R28, R29: the rule's plan for an operation over the rows of a file.
-fn plan_in(file: &[u8], shape: Shape, node: Node) -> Plan
-    requires whole { Whole file.now (shape_of shape) }
-    requires below { Below (F.leaves (shape_of shape) + rows_in file.now) (node_row node) }
-    ensures { plan_row result ≡ R.plan (set_with file.now (shape_of shape)).tab (node_row node) }
+fn plan_in(set: &SetFile<'_>, node: Node) -> Plan
+    requires { Below (rows_of set.now) (node_row node) }
+    ensures { plan_row result ≡ R.plan (spells set.now).tab (node_row node) }
 {
     match node {
         Node::Leaf(i) => Plan::Have(i),
-        Node::Not(a) => plan_not(a, row_in(file, shape, a)),
+        Node::Not(a) => plan_not(a, set.row(a)),
         Node::Two(o, a, b) => plan_two(o, a, b),
     }
 }
@@ -51,10 +48,10 @@ fn makes(plan: Plan, node: Node) -> bool
 }
 
 // R41: how many operation rows stand up to row i.
-pub fn rows_to(shape: Shape, i: Row) -> usize
-    ensures { result ≡ suc i.0 - F.leaves (shape_of shape) }
+pub fn rows_to(set: &SetFile<'_>, i: Row) -> usize
+    ensures { result ≡ suc i.0 - F.leaves (shape_of set.now.shape) }
 {
-    let leaves = 2 + shape.cells();
+    let leaves = set.leaves();
     let next = i.0 as usize + 1;
     if next < leaves {
         return 0;
@@ -79,36 +76,33 @@ fn same_bytes(file: &[u8], p: usize, q: usize) -> bool
 
 // R43: whether no row before row k is equal to it. The search begins after row k's larger operand: a row that has that operand too
 // stands after it.
-fn none_equal(file: &[u8], shape: Shape, last: Row, k: Row) -> bool
-    requires { Made file.now (shape_of shape) k.0 last.0 }
-    ensures { let t = (set_with file.now (shape_of shape)).tab in result ≡ eqb (R.find t (R.row_at t k.0)) k.0 }
+fn none_equal(set: &SetFile<'_>, last: Row, k: Row) -> bool
+    requires { Made set.now k.0 last.0 }
+    ensures { let t = (spells set.now).tab in result ≡ eqb (R.find t (R.row_at t k.0)) k.0 }
 {
-    let first = row_place(shape, 0);
-    let n = rows_to(shape, k) - 1;
+    let first = set.place(0);
+    let n = rows_to(set, k) - 1;
     let at = first + 5 * n;
-    let mut j = rows_to(shape, last);
-    while j < n {
-        if same_bytes(file, first + 5 * j, at) {
+    for j in rows_to(set, last)..n {
+        if same_bytes(set.file, first + 5 * j, at) {
             return false;
         }
-        j += 1;
     }
     true
 }
 
 // R43: whether row k fits: operands earlier, nothing folds, no equal row before it.
-pub fn row_fits(file: &[u8], shape: Shape, k: Row) -> bool
-    requires whole { Whole file.now (shape_of shape) }
-    requires among { Among file.now (shape_of shape) k.0 }
-    requires fit_before { FitBefore file.now (shape_of shape) k.0 }
-    ensures { result ≡ F.fits (set_with file.now (shape_of shape)).tab k.0 }
+pub fn row_fits(set: &SetFile<'_>, k: Row) -> bool
+    requires among { Among set.now k.0 }
+    requires fit_before { FitBefore set.now k.0 }
+    ensures { result ≡ F.fits (spells set.now).tab k.0 }
 {
-    let node = row_in(file, shape, k);
+    let node = set.row(k);
     if !earlier(node, k) {
         return false;
     }
-    if !makes(plan_in(file, shape, node), node) {
+    if !makes(plan_in(set, node), node) {
         return false;
     }
-    none_equal(file, shape, last_operand(node), k)
+    none_equal(set, last_operand(node), k)
 }

@@ -4,30 +4,24 @@ ghost use mathlib.Core.List.{flat_map};
 ghost use Rattle.rules.specs.Lists.{elem};
 ghost use Rattle.rules.specs.Sets.{operands};
 ghost use Rattle.rules.specs.SetFile.{row_in, named};
-ghost use Rattle.base.specs.Answers.{shape_of};
 ghost use Rattle.rows.specs.Entries.{node_row};
-ghost use Rattle.sets.specs.Judging.{Whole, Among};
-ghost use Rattle.sets.specs.Spelt.{set_with};
+ghost use Rattle.sets.specs.Judging.{spells, Among};
 
 use crate::fit::rows_to;
-use crate::read::{head_in, node_in, row_place};
+use crate::read::{SetFile, node_in};
 use base::bytes::word;
 use base::kinds::{Cell, Row};
-use base::shape::Shape;
 use rows::node::Node;
 
 // R44: whether row k is a head.
-fn is_head(file: &[u8], shape: Shape, k: Row) -> bool
-    requires { Whole file.now (shape_of shape) }
-    ensures { result ≡ elem k.0 (set_with file.now (shape_of shape)).heads }
+fn is_head(set: &SetFile<'_>, k: Row) -> bool
+    ensures { result ≡ elem k.0 (spells set.now).heads }
 {
-    let cells = shape.cells();
-    let mut c = 0;
-    while c < cells {
-        if head_in(file, Cell(c as u16)).0 == k.0 {
+    let cells = set.shape.cells();
+    for c in 0..cells {
+        if set.head(Cell(c as u16)).0 == k.0 {
             return true;
         }
-        c += 1;
     }
     false
 }
@@ -58,31 +52,27 @@ fn names_at(file: &[u8], at: usize, k: Row) -> bool
 }
 
 // R44: whether a later row names row k.
-fn is_operand(file: &[u8], shape: Shape, k: Row) -> bool
-    requires whole { Whole file.now (shape_of shape) }
-    requires among { Among file.now (shape_of shape) k.0 }
-    ensures { result ≡ elem k.0 (flat_map operands (drop (suc k.0) (set_with file.now (shape_of shape)).tab)) }
+fn is_operand(set: &SetFile<'_>, k: Row) -> bool
+    requires { Among set.now k.0 }
+    ensures { result ≡ elem k.0 (flat_map operands (drop (suc k.0) (spells set.now).tab)) }
 {
-    let first = row_place(shape, 0);
-    let rows = word(file, 5);
-    let mut j = rows_to(shape, k);
-    while j < rows {
-        if names_at(file, first + 5 * j, k) {
+    let first = set.place(0);
+    let rows = set.rows();
+    for j in rows_to(set, k)..rows {
+        if names_at(set.file, first + 5 * j, k) {
             return true;
         }
-        j += 1;
     }
     false
 }
 
 // R44: whether a head or a later row names row k.
-pub fn row_named(file: &[u8], shape: Shape, k: Row) -> bool
-    requires whole { Whole file.now (shape_of shape) }
-    requires among { Among file.now (shape_of shape) k.0 }
-    ensures { result ≡ named (set_with file.now (shape_of shape)).tab (set_with file.now (shape_of shape)).heads k.0 }
+pub fn row_named(set: &SetFile<'_>, k: Row) -> bool
+    requires { Among set.now k.0 }
+    ensures { result ≡ named (spells set.now).tab (spells set.now).heads k.0 }
 {
-    if is_head(file, shape, k) {
+    if is_head(set, k) {
         return true;
     }
-    is_operand(file, shape, k)
+    is_operand(set, k)
 }

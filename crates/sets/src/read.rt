@@ -5,12 +5,86 @@ ghost use Rattle.rules.specs.Lists.{number_at};
 ghost use Rattle.rules.specs.SetFile.{head_at, row_place, row_in};
 ghost use Rattle.base.specs.Answers.{shape_of};
 ghost use Rattle.rows.specs.Entries.{node_row};
-ghost use Rattle.sets.specs.Spelt.{spelt_row, Inside};
+ghost use Rattle.sets.specs.Spelt.{spelt_row, Inside, Whole};
 
 use base::bytes::word;
 use base::kinds::{Cell, Row};
 use base::shape::Shape;
+use program::header::shape_at;
 use rows::node::Node;
+
+// R41: a file and a shape. It is as long as its count says, and counts few enough rows.
+#[derive(Clone, Copy)]
+pub struct SetFile<'a> {
+    pub file: &'a [u8],
+    pub shape: Shape,
+    pub ghost whole: { Whole file.now (shape_of shape) },
+}
+
+impl<'a> SetFile<'a> {
+    ghost use Rattle.std.specs.Prelude.{get_or};
+    ghost use Rattle.rules.specs.Shape.{cells};
+    ghost use Rattle.rules.specs.SetFile.{leaves};
+    ghost use Rattle.rules.specs.Rows.{row_at};
+    ghost use Rattle.sets.specs.Spelt.{rows_in, set_in, Taken};
+    ghost use Rattle.sets.specs.Judging.{spells, rows_of};
+
+    // R49: an accepted file, with its shape.
+    pub fn accepted(file: &'a [u8]) -> SetFile<'a>
+        requires { Taken file.now }
+        ensures { spells result ≡ set_in file.now }
+    {
+        SetFile {
+            file,
+            shape: shape_at(file),
+        }
+    }
+
+    // R41: how many operation rows there are.
+    pub fn rows(&self) -> usize
+        ensures { result ≡ rows_in self.now.file.now }
+    {
+        word(self.file, 5)
+    }
+
+    // R26: how many rows come before the operation rows.
+    pub fn leaves(&self) -> usize
+        ensures { result ≡ leaves (shape_of self.now.shape) }
+    {
+        2 + self.shape.cells()
+    }
+
+    // R26: how many rows the table has.
+    pub fn total(&self) -> usize
+        ensures { result ≡ rows_of self.now }
+    {
+        self.leaves() + self.rows()
+    }
+
+    // R41: where operation row j stands, counted from 0.
+    pub fn place(&self, j: usize) -> usize
+        requires { j ≤ rows_in self.now.file.now }
+        ensures { result ≡ row_place old (shape_of self.now.shape) j }
+    {
+        row_place(self.shape, j)
+    }
+
+    // R31: the head of a cell.
+    pub fn head(&self, c: Cell) -> Row
+        requires { c.0 < cells (shape_of self.now.shape) }
+        ensures { result.0 ≡ get_or (spells self.now).heads c.0 0 }
+    {
+        head_in(self.file, c)
+    }
+
+    // R26: row i of the table.
+    pub fn row(&self, i: Row) -> Node
+        requires { i.0 < rows_of self.now }
+        ensures { node_row result ≡ row_at (spells self.now).tab i.0 }
+    {
+        row_in(self.file, self.shape, i)
+    }
+}
 
 // R5: the row that the two-byte number at a place names.
 fn row_word(file: &[u8], at: usize) -> Row

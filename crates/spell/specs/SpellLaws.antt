@@ -1,5 +1,5 @@
 -- The rows of an expression follow from those of its operands.
-use Rattle.std.specs.Prelude.{ℕ, suc, ◌+◌, ◌-◌, ◌≤◌, ◌<◌, ◌≡◌, Bool, false, cond, List, length, get_or, eqb}
+use Rattle.std.specs.Prelude.{ℕ, suc, ◌+◌, ◌-◌, ◌≤◌, ◌<◌, ◌≡◌, Bool, cond, List, get_or, eqb, Ok, Err}
 use Rattle.std.proofs.Common.{sym, ap, ◌∙◌, arith, add-one, lt-ltb, le-ltb}
 use Rattle.std.proofs.Math.Decide.{dec_lt}
 use Rattle.rules.specs.Expr.{Exp, con, cell, Read, two}
@@ -11,12 +11,13 @@ use Rattle.laws.specs.Build.{over-more}
 use Rattle.base.specs.declared.kinds.Row as K
 use Rattle.program.specs.Reading.{Reads, Parts, variable_parts, constant_parts, not-parts, two-parts, read-operand, read-second}
 use Rattle.table.specs.declared.Table.{Table}
+use Rattle.base.specs.declared.refusal.Refusal.{Refusal}
+use Rattle.table.specs.Append.{Kept}
 use Rattle.rows.specs.Table.{Addable, Adds}
 use Rattle.rows.specs.declared.node.Node.TheVariants.{Not, Two}
-use Rattle.rows.specs.declared.adding.Added.{Added}
 use Rattle.spell.specs.declared.expression.Grown.{Grown}
-use Rattle.spell.specs.Made.{made-simple, open_after, not-addable, made-not, two-addable, made-two}
-use Rattle.spell.specs.Spelling.{leaf_row, Spelling, Spells}
+use Rattle.spell.specs.Made.{made-simple, full-not, full-two, open_after, not-addable, made-not, full-second, two-addable, made-two}
+use Rattle.spell.specs.Spelling.{leaf_row, Spelling, Spelt, Unspelt}
 
 -- R11: an expression that was read names only cells that there are.
 pub reads_over : {file : List ℕ} {v stop p : ℕ} {x : Read Exp} (C : ℕ) → v ≤ C → Reads file v stop p x → Over C x.got
@@ -33,13 +34,12 @@ constant_row d h = elim (dec_lt d 1) [
       rw e
 ]
 
-module _ (file : List ℕ) (v stop p : ℕ) (rows : List ℕ) (s : Table) (g : Spelling file v stop p rows s) where
+module _ (file : List ℕ) (v stop p : ℕ) (s : Table) (g : Spelling file v stop p s) where
   abbrev b : ℕ
   b = get_or file p 0
 
   -- R11: a variable or a constant.
-  pub spell_leaf : b < 252 → (r : K.Row) → r.0 ≡ leaf_row b
-      → Spells file v stop p rows s (record { added = record { row = r; table = s }; next = p + 1 }) rows
+  pub spell_leaf : b < 252 → (r : K.Row) → r.0 ≡ leaf_row b → Spelt file v stop p s (record { row = r; next = p + 1 }) s
   spell_leaf h r e = elim (dec_lt b 250) [
     | yes l ↦
         let is : (x : Read Exp) → Reads file v stop p x → x ≡ record { got = cell b; next = suc p }
@@ -47,7 +47,7 @@ module _ (file : List ℕ) (v stop p : ℕ) (rows : List ℕ) (s : Table) (g : S
         let row : r.0 ≡ suc (suc b) = (rw (lt-ltb b 250 l) at e) ∙ omega arith in
         record {
           place = λ x q. add-one p ∙ ap (λ (y : Read Exp). y.next) (sym (is x q));
-          made = λ C n x q. rw (is x q) (made-simple C rows s (cell b) tt r row);
+          made = λ C n x q. rw (is x q) (made-simple C s (cell b) tt r row);
         }
     | no l ↦
         let is : (x : Read Exp) → Reads file v stop p x → x ≡ record { got = con (eqb 1 (b - 250)); next = suc p }
@@ -55,12 +55,12 @@ module _ (file : List ℕ) (v stop p : ℕ) (rows : List ℕ) (s : Table) (g : S
         let row : r.0 ≡ cond (eqb 1 (b - 250)) 1 0 = (rw (le-ltb b 250 (omega arith)) at e) ∙ constant_row (b - 250) (omega arith) in
         record {
           place = λ x q. add-one p ∙ ap (λ (y : Read Exp). y.next) (sym (is x q));
-          made = λ C n x q. rw (is x q) (made-simple C rows s (con (eqb 1 (b - 250))) tt r row);
+          made = λ C n x q. rw (is x q) (made-simple C s (con (eqb 1 (b - 250))) tt r row);
         }
   ]
 
   -- The operands can be added too.
-  pub operand_spelling : 252 ≤ b → Spelling file v stop (p + 1) rows s
+  pub operand_spelling : 252 ≤ b → Spelling file v stop (p + 1) s
   operand_spelling h = record {
     legible = read-operand file v stop p g.legible h;
     count = g.count;
@@ -68,12 +68,25 @@ module _ (file : List ℕ) (v stop p : ℕ) (rows : List ℕ) (s : Table) (g : S
     opened = g.opened;
   }
 
+  -- No row is left for the first operand.
+  pub spell_full : 252 ≤ b → {e : Refusal} {s' : Table} → Unspelt file v stop (p + 1) s e s' → Unspelt file v stop p s e s'
+  spell_full h w = record {
+    full = λ C n x q. elim (dec_lt 252 b) [
+      | yes l ↦
+          let t = two-parts file v stop p g.legible x q l in
+          rw t.4 (full-two ((rw add-one at w).full C n t.0 t.2) _ _)
+      | no l ↦
+          let t = not-parts file v stop p g.legible x q (omega arith) in
+          rw t.2 (full-not ((rw add-one at w).full C n t.0 t.1))
+    ];
+  }
+
   -- The first operand was added.
-  module _ (y : Grown) (mid : List ℕ) (w : Spells file v stop (p + 1) rows s y mid) where
-    abbrev w' : Spells file v stop (suc p) rows s y mid
+  module _ (y : Grown) (s₁ : Table) (w : Spelt file v stop (p + 1) s y s₁) where
+    abbrev w' : Spelt file v stop (suc p) s y s₁
     w' = rw add-one at w
 
-    pub second_spelling : 252 < b → Spelling file v stop y.next mid y.added.table
+    pub second_spelling : 252 < b → Spelling file v stop y.next s₁
     second_spelling h =
         let t = two-parts file v stop p g.legible g.legible.what g.legible.reads h in
         record {
@@ -83,45 +96,69 @@ module _ (file : List ℕ) (v stop p : ℕ) (rows : List ℕ) (s : Table) (g : S
           opened = open_after (reads_over g.count g.enough t.2) (w'.made g.count g.enough t.0 t.2) g.opened;
         }
 
-    pub spell_addable : b ≡ 252 → y.added.table.refused ≡ false → Addable mid y.added.table.used (inv y.added.row.0)
+    pub spell_addable : b ≡ 252 → Addable s₁ (inv y.row.0)
     spell_addable h =
         let t = not-parts file v stop p g.legible g.legible.what g.legible.reads h in
         not-addable (reads_over g.count g.enough t.1) (w'.made g.count g.enough t.0 t.1) g.opened
 
-    pub spell_not : b ≡ 252 → (a : Added) (after : List ℕ) → Adds mid y.added.table (Not y.added.row) a after
-        → length after ≡ length mid → Spells file v stop p rows s (record { added = a; next = y.next }) after
-    spell_not h a after d size = record {
-      place = λ x q.
-          let t = not-parts file v stop p g.legible x q h in
-          cc (w'.place t.0 t.1, t.2);
-      made = λ C n x q.
-          let t = not-parts file v stop p g.legible x q h in
-          rw t.2 (made-not (reads_over C n t.1) (w'.made C n t.0 t.1) d size);
-    }
+    module _ (k : Kept s s₁) where
+      pub spell_not : b ≡ 252 → (a : K.Row) {s' : Table} → Adds s₁ (Not y.row) (Ok a) s'
+          → Spelt file v stop p s (record { row = a; next = y.next }) s'
+      spell_not h a d = record {
+        place = λ x q.
+            let t = not-parts file v stop p g.legible x q h in
+            cc (w'.place t.0 t.1, t.2);
+        made = λ C n x q.
+            let t = not-parts file v stop p g.legible x q h in
+            rw t.2 (made-not (reads_over C n t.1) (w'.made C n t.0 t.1) k d);
+      }
+
+      pub spell_not_full : b ≡ 252 → {e : Refusal} {s' : Table} → Adds s₁ (Not y.row) (Err e) s' → Unspelt file v stop p s e s'
+      spell_not_full h d = record {
+        full = λ C n x q.
+            let t = not-parts file v stop p g.legible x q h in
+            rw t.2 (made-not (reads_over C n t.1) (w'.made C n t.0 t.1) k d);
+      }
+
+      -- No row is left for the second.
+      pub spell_second_full : 252 < b → {e : Refusal} {s' : Table} → Unspelt file v stop y.next s₁ e s' → Unspelt file v stop p s e s'
+      spell_second_full h u = record {
+        full = λ C n x q.
+            let t = two-parts file v stop p g.legible x q h in
+            rw t.4 (full-second (reads_over C n t.2) (w'.made C n t.0 t.2) k _ ((rw (w'.place t.0 t.2) at u).full C n t.1 t.3));
+      }
 
     -- So was the second.
-    module _ (h : 252 < b) (z : Grown) (more : List ℕ) (u : Spells file v stop y.next mid y.added.table z more)
-        (kept : length more ≡ length mid) where
+    module _ (h : 252 < b) (z : Grown) (s₂ : Table) (u : Spelt file v stop y.next s₁ z s₂) where
       first : {x : Read Exp} {o : Bool} (t : Parts file v stop p x (two o)) → y.next ≡ t.0.next
       first t = w'.place t.0 t.2
 
-      pub both-addable : (o : Bool) → z.added.table.refused ≡ false
-          → Addable more z.added.table.used (bin o y.added.row.0 z.added.row.0)
+      pub both-addable : (o : Bool) → Addable s₂ (bin o y.row.0 z.row.0)
       both-addable o =
           let t = two-parts file v stop p g.legible g.legible.what g.legible.reads h in
           two-addable (reads_over g.count g.enough t.2) (w'.made g.count g.enough t.0 t.2)
-          (reads_over g.count g.enough t.3) ((rw (first t) at u).made g.count g.enough t.1 t.3) kept o
+          (reads_over g.count g.enough t.3) ((rw (first t) at u).made g.count g.enough t.1 t.3) o
           g.opened
 
-      pub spell_two : (a : Added) (after : List ℕ) → Adds more z.added.table (Two (eqb b 253) y.added.row z.added.row) a after
-          → length after ≡ length more → Spells file v stop p rows s (record { added = a; next = z.next }) after
-      spell_two a after d size = record {
-        place = λ x q.
-            let t = two-parts file v stop p g.legible x q h in
-            (rw (first t) at u).place t.1 t.3 ∙ ap (λ (k : Read Exp). k.next) (sym t.4);
-        made = λ C n x q.
-            let t = two-parts file v stop p g.legible x q h in
-            rw t.4
-            (made-two (reads_over C n t.2) (w'.made C n t.0 t.2) (reads_over C n t.3)
-            ((rw (first t) at u).made C n t.1 t.3) kept (eqb b 253) d size);
-      }
+      module _ (k : Kept s s₂) where
+        pub spell_two : (a : K.Row) {s' : Table} → Adds s₂ (Two (eqb b 253) y.row z.row) (Ok a) s'
+            → Spelt file v stop p s (record { row = a; next = z.next }) s'
+        spell_two a d = record {
+          place = λ x q.
+              let t = two-parts file v stop p g.legible x q h in
+              (rw (first t) at u).place t.1 t.3 ∙ ap (λ (k : Read Exp). k.next) (sym t.4);
+          made = λ C n x q.
+              let t = two-parts file v stop p g.legible x q h in
+              rw t.4
+              (made-two (reads_over C n t.2) (w'.made C n t.0 t.2) (reads_over C n t.3)
+              ((rw (first t) at u).made C n t.1 t.3) (eqb b 253) k d);
+        }
+
+        pub spell_two_full : {e : Refusal} {s' : Table} → Adds s₂ (Two (eqb b 253) y.row z.row) (Err e) s' → Unspelt file v stop p s e s'
+        spell_two_full d = record {
+          full = λ C n x q.
+              let t = two-parts file v stop p g.legible x q h in
+              rw t.4
+              (made-two (reads_over C n t.2) (w'.made C n t.0 t.2) (reads_over C n t.3)
+              ((rw (first t) at u).made C n t.1 t.3) (eqb b 253) k d);
+        }

@@ -1,17 +1,19 @@
 // The rows of an expression, added to a table by the rule (R11, R37).
 ghost use Rattle.std.specs.Prelude.{◌≡◌, ◌<◌};
+ghost use Rattle.table.specs.Append.{Kept};
 ghost use Rattle.spell.specs.Spelling.{leaf_row, Spelling, Spells};
 
 use base::kinds::{Cell, Row};
+use base::refusal::Refusal;
 use reader::read_at;
-use rows::adding::{Added, add};
+use rows::adding::add;
 use rows::node::Node;
 use table::Table;
 
-// The row of an expression with the table after it was added, and the place after the expression.
+// The row of an expression, and the place after the expression.
 #[derive(Clone, Copy)]
 pub struct Grown {
-    pub added: Added,
+    pub row: Row,
     pub next: usize,
 }
 
@@ -21,7 +23,7 @@ fn leaf_row(b: u8) -> Row
     ensures { result.0 ≡ leaf_row b }
 {
     if b < 250 {
-        return Row::of_cell(Cell::of_byte(b));
+        return Row::of_cell(Cell::from(b));
     }
     Row(b as u16 - 250)
 }
@@ -33,38 +35,25 @@ pub fn add_expression(
     vars: usize,
     stop: usize,
     at: usize,
-    rows: &mut [u64],
-    table: Table,
-) -> Grown
-    requires { Spelling file.now vars stop at rows.old table }
-    ensures { Spells file.now vars stop at rows.old table result rows.new }
+    table: &mut Table,
+) -> Result<Grown, Refusal>
+    requires { Spelling file.now vars stop at table.old }
+    ensures kept { Kept table.old table.new }
+    ensures spells { Spells file.now vars stop at table.old result table.new }
 {
     let b = read_at(file, at);
     if b < 252 {
-        return Grown {
-            added: Added {
-                row: leaf_row(b),
-                table: table,
-            },
+        return Ok(Grown {
+            row: leaf_row(b),
             next: at + 1,
-        };
+        });
     }
-    let x = add_expression(file, vars, stop, at + 1, rows, table);
-    let first = x.added;
-    let left = first.row;
-    let middle = first.table;
+    let x = add_expression(file, vars, stop, at + 1, table)?;
     if b == 252 {
-        return Grown {
-            added: add(rows, middle, Node::Not(left)),
-            next: x.next,
-        };
+        let row = add(table, Node::Not(x.row))?;
+        return Ok(Grown { row, next: x.next });
     }
-    let y = add_expression(file, vars, stop, x.next, rows, middle);
-    let second = y.added;
-    let right = second.row;
-    let last = second.table;
-    Grown {
-        added: add(rows, last, Node::Two(b == 253, left, right)),
-        next: y.next,
-    }
+    let y = add_expression(file, vars, stop, x.next, table)?;
+    let row = add(table, Node::Two(b == 253, x.row, y.row))?;
+    Ok(Grown { row, next: y.next })
 }

@@ -7,21 +7,13 @@ use native.Mathlib.Omega.{arith}
 use Rattle.std.proofs.Math.Nat.{zero-add}
 use Rattle.std.proofs.Math.Decide.{dec_lt}
 use Rattle.std.proofs.Math.ListN.{length, get_or-eq_default}
-use borrow.Author.Tests.{ltb-false, eqb-true, not-false, lt-ltb, le-ltb, eq-eqb, ne_eqb}
+use borrow.Author.Tests.{le-ltb, ltb-false, eqb-true, not-false, lt-ltb, eq-eqb, ne_eqb}
 use Rattle.rules.specs.Verdict.{Verdict, granted, refused, ◌>>=◌}
 use Rattle.rules.specs.Lists.{seek}
 use Rattle.laws.specs.Lists.{search_none, none_search, seek-first}
 use Rattle.laws.specs.Verdict.{bind_granted, check_granted}
 use Rattle.rules.specs.Operations.{check_storage}
-use Rattle.base.specs.Answers.{refused_by}
 use Rattle.storage.specs.Cells.{bits_of, Bits}
-use Rattle.storage.specs.declared.Cells.{Cells}
-use Rattle.storage.specs.declared.Cells.TheVariants.{Good, Refused}
-
--- R46: the answer that a check's result is.
-abbrev pub cells_verdict : Cells → Verdict (Unit {0})
-cells_verdict Good = granted tt
-cells_verdict (Refused x) = refused_by x
 
 -- R50: the check of a storage that hands nothing back.
 abbrev pub check_cells : ℕ → List ℕ → Verdict (Unit {0})

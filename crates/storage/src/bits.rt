@@ -5,19 +5,19 @@ ghost use Rattle.std.specs.Prelude.{◌≡◌, ◌-◌, min, max};
 pub fn opposite(x: u8) -> u8
     ensures { result ≡ 1 - x }
 {
-    if x == 0 { 1 } else { 0 }
+    1u8.saturating_sub(x)
 }
 
 // AND of two bits.
 pub fn both(x: u8, y: u8) -> u8
     ensures { result ≡ min x y }
 {
-    if x < y { x } else { y }
+    x.min(y)
 }
 
 // OR of two bits.
 pub fn either(x: u8, y: u8) -> u8
     ensures { result ≡ max x y }
 {
-    if x < y { y } else { x }
+    x.max(y)
 }

@@ -3,9 +3,10 @@
 
 pub mod bits;
 
-ghost use Rattle.std.specs.Prelude.{◌≡◌, ◌+◌, ◌<◌, length, get_or, set};
+ghost use Rattle.std.specs.Prelude.{◌≡◌, ◌+◌, ◌<◌, length, get_or, set, nat_lt, position};
 ghost use Rattle.storage.specs.Cells.{push_on, drop_top, reset_from};
-ghost use Rattle.storage.specs.Checked.{cells_verdict, check_cells};
+ghost use Rattle.base.specs.Answers.{verdict_of};
+ghost use Rattle.storage.specs.Checked.{check_cells};
 
 use base::kinds::Cell;
 use base::refusal::Refusal;
@@ -33,14 +34,10 @@ pub fn push(s: &mut [u8], flag: Cell, bit: u8)
     requires { flag.0 + 1 < length s.old }
     ensures { s.new ≡ push_on flag.0 bit s.old }
 {
-    let mut held = bit;
-    let mut i = flag.0 as usize + 1;
-    while i < s.len() {
-        let next = s[i];
-        s[i] = held;
-        held = next;
-        i += 1;
-    }
+    let top = flag.0 as usize + 1;
+    let last = s.len() - 1;
+    s.copy_within(top..last, top + 1);
+    s[top] = bit;
 }
 
 // R19: the top of the stack is taken off. Each cell after it moves back by one, and the last becomes 0.
@@ -48,12 +45,9 @@ pub fn drop_top(s: &mut [u8], flag: Cell)
     requires { flag.0 + 1 < length s.old }
     ensures { s.new ≡ drop_top flag.0 s.old }
 {
+    let top = flag.0 as usize + 1;
     let last = s.len() - 1;
-    let mut i = flag.0 as usize + 1;
-    while i < last {
-        s[i] = s[i + 1];
-        i += 1;
-    }
+    s.copy_within(top + 1.., top);
     s[last] = 0;
 }
 
@@ -63,12 +57,8 @@ pub fn reset(s: &mut [u8], flag: Cell)
     ensures { s.new ≡ reset_from flag.0 s.old }
 {
     let at = flag.0 as usize;
-    let mut i = at + 1;
-    while i < s.len() {
-        s[i] = 0;
-        i += 1;
-    }
     s[at] = 1;
+    s[at + 1..].fill(0);
 }
 
 // R3: a storage gets what another has.
@@ -76,33 +66,25 @@ pub fn copy_cells(from: &[u8], to: &mut [u8])
     requires { length from.now ≡ length to.old }
     ensures { to.new ≡ from.now }
 {
-    let mut i = 0;
-    while i < from.len() {
-        to[i] = from[i];
-        i += 1;
-    }
+    to.copy_from_slice(from);
 }
 
-// R50: whether lent bytes are a storage.
-#[derive(Clone, Copy)]
-pub enum Cells {
-    Good,
-    Refused(Refusal),
+// R50: the first cell that is no bit.
+fn first_above(s: &[u8]) -> Option<usize>
+    ensures { result ≡ position (λ x. nat_lt 1 x) s.now }
+{
+    s.iter().position(|x| 1 < *x)
 }
 
 // R3, R50: a storage has a byte for each cell, 0 or 1. The length is looked at first, then the cells in their order.
-pub fn check_cells(s: &[u8], cells: usize) -> Cells
-    ensures { cells_verdict result ≡ check_cells cells s.now }
+pub fn check_cells(s: &[u8], cells: usize) -> Result<(), Refusal>
+    ensures { verdict_of result ≡ check_cells cells s.now }
 {
     if s.len() != cells {
-        return Cells::Refused(Refusal::BadStorage(s.len()));
+        return Err(Refusal::BadStorage(s.len()));
     }
-    let mut i = 0;
-    while i < cells {
-        if 1 < s[i] {
-            return Cells::Refused(Refusal::BadStorage(i));
-        }
-        i += 1;
+    match first_above(s) {
+        Some(i) => Err(Refusal::BadStorage(i)),
+        None => Ok(()),
     }
-    Cells::Good
 }

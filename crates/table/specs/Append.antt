@@ -1,40 +1,35 @@
--- Appending a row to a table in a lent slice: the state and the rows after.
-use Rattle.std.specs.Prelude.{ℕ, ◌+◌, ◌≤◌, ◌<◌, ◌≡◌, true, cond, List, length, set, ltb}
-use Rattle.std.proofs.Common.{lt-ltb, le-ltb}
+-- Appending a row to a table in a lent slice.
+use Rattle.std.specs.Prelude.{ℕ, ◌+◌, ◌≤◌, ◌<◌, ◌≡◌, length, set}
+use Rattle.std.specs.Prelude.{Ok, Err}
 use Rattle.rules.specs.Room.{room}
+use Rattle.base.specs.Answers.{Answer}
+use Rattle.base.specs.declared.refusal.Refusal.{Refusal}
+use Rattle.base.specs.declared.refusal.Refusal.TheVariants.{NoRoom}
 use Rattle.table.specs.declared.Table.{Table}
 
--- R53, R54: one row more is used; or the table is refused, where no row is left.
-unfoldable pub table_after : List ℕ → Table → Table
-table_after rows t =
-    cond (ltb t.used (room (length rows))) (record { used = t.used + 1; refused = t.refused })
-    (record { used = t.used; refused = true })
+-- R53: how many rows of a table may be used.
+abbrev pub room_of : Table → ℕ
+room_of s = room (length s.rows.now)
 
--- R53, R54: the number stands after those that were used; or nothing is stored, where no row is left.
-unfoldable pub rows_after : List ℕ → Table → ℕ → List ℕ
-rows_after rows t entry = cond (ltb t.used (room (length rows))) (set rows t.used entry) rows
+-- A call leaves the table in the slice that was lent.
+pub record Kept (s s' : Table) : Type 0 where
+  pub same : s'.rows.ghost_name ≡ s.rows.ghost_name
+  pub size : length s'.rows.now ≡ length s.rows.now
 
--- What an append leaves of the state and of the rows.
-pub record Appends (rows : List ℕ) (t : Table) (entry : ℕ) (t' : Table) (rows' : List ℕ) : Type 0 where
-  pub state : t' ≡ table_after rows t
-  pub stored : rows' ≡ rows_after rows t entry
+-- R53: one row more is used, and the number stands in it.
+pub record More (s : Table) (entry : ℕ) (s' : Table) : Type 0 where
+  pub left : s.used < room_of s
+  pub used : s'.used ≡ s.used + 1
+  pub stored : s'.rows.now ≡ set s.rows.now s.used entry
 
--- The state and the rows after, by whether a row is left.
-module _ (rows : List ℕ) (t : Table) where
-  module _ (h : t.used < room (length rows)) where
-    pub table_more : table_after rows t ≡ record { used = t.used + 1; refused = t.refused }
-    unfolding table_after
-    table_more = simp (lt-ltb _ _ h)
+-- R54: no row is left, and nothing is stored.
+pub record Full (s : Table) (x : Refusal) (s' : Table) : Type 0 where
+  pub none : room_of s ≤ s.used
+  pub place : x ≡ NoRoom (room_of s)
+  pub used : s'.used ≡ s.used
+  pub stored : s'.rows.now ≡ s.rows.now
 
-    pub rows_more : (entry : ℕ) → rows_after rows t entry ≡ set rows t.used entry
-    unfolding rows_after
-    rows_more entry = simp (lt-ltb _ _ h)
-
-  module _ (h : room (length rows) ≤ t.used) where
-    pub table-full : table_after rows t ≡ record { used = t.used; refused = true }
-    unfolding table_after
-    table-full = simp (le-ltb _ _ h)
-
-    pub rows-full : (entry : ℕ) → rows_after rows t entry ≡ rows
-    unfolding rows_after
-    rows-full entry = simp (le-ltb _ _ h)
+-- R53, R54: what an append answers and leaves.
+abbrev pub Appends : Table → ℕ → Answer (Unit {0}) → Table → Type 0
+Appends s entry (Ok x) s' = More s entry s'
+Appends s entry (Err x) s' = Full s x s'

@@ -1,62 +1,60 @@
-// The state of a row table, lent to the one function that appends (R53, R54).
+// A row table in a lent slice, and the one function that appends to it (R53, R54).
 #![tactic(auto)]
 
 ghost use Rattle.std.specs.Prelude.{◌≡◌};
 ghost use Rattle.rules.specs.Room.{room};
-ghost use Rattle.table.specs.Append.{Appends};
+ghost use Rattle.table.specs.Append.{Kept, Appends};
 
-// How many rows are used, and whether an append found none left.
-#[derive(Clone, Copy)]
-pub struct Table {
-    pub used: usize,
-    pub refused: bool,
-}
+use base::refusal::Refusal;
 
-impl Table {
-    // No row is used.
-    pub const EMPTY: Table = Table {
-        used: 0,
-        refused: false,
-    };
+// The rows that are lent, and how many of them are used.
+#[derive(Drop)]
+pub struct Table<'a> {
+    rows: &'a mut [u64],
+    used: usize,
 }
 
 // R53: how many of so many rows may be used.
 pub fn room_in(rows: usize) -> usize
     ensures { result ≡ room rows }
 {
-    if rows < 65535 { rows } else { 65535 }
+    rows.min(65535)
 }
 
-// R53, R54: stores a row's number after those that are used; or refuses, where no row is left.
-fn put_entry(rows: &mut [u64], state: Table, entry: u64) -> Table
-    ensures { Appends rows.old state entry result rows.new }
-{
-    let used = state.used;
-    if used < room_in(rows.len()) {
-        rows[used] = entry;
-        return Table {
-            used: used + 1,
-            refused: state.refused,
-        };
+impl<'a> Table<'a> {
+    // No row is used.
+    pub fn empty(rows: &'a mut [u64]) -> Table<'a>
+        ensures same { result.rows.ghost_name ≡ rows.entry.ghost_name }
+        ensures empty { (result.rows.now ≡ rows.old) × (result.used ≡ 0) }
+    {
+        Table { rows, used: 0 }
     }
-    Table {
-        used: used,
-        refused: true,
+
+    // All rows that are lent.
+    pub fn rows(&self) -> &[u64]
+        ensures { result.now ≡ self.now.rows.now }
+    {
+        self.rows
     }
-}
 
-// R53, R54: appends a row to the table whose state is lent.
-pub fn append(table: &mut Table, rows: &mut [u64], entry: u64)
-    ensures { Appends rows.old table.old entry table.new rows.new }
-{
-    *table = put_entry(rows, *table, entry);
-}
+    // How many are used.
+    pub fn used(&self) -> usize
+        ensures { result ≡ self.now.used }
+    {
+        self.used
+    }
 
-// R53, R54: appends a row to the table of that state, and answers the state after.
-pub fn append_to(rows: &mut [u64], table: Table, entry: u64) -> Table
-    ensures { Appends rows.old table entry result rows.new }
-{
-    let mut state = table;
-    append(&mut state, rows, entry);
-    state
+    // R53, R54: stores a row's number after those that are used; or refuses, where no row is left, with as many as may be used.
+    pub fn append(&mut self, entry: u64) -> Result<(), Refusal>
+        ensures kept { Kept self.old self.new }
+        ensures appends { Appends self.old entry result self.new }
+    {
+        let room = room_in(self.rows.len());
+        if self.used < room {
+            self.rows[self.used] = entry;
+            self.used += 1;
+            return Ok(());
+        }
+        Err(Refusal::NoRoom(room as u32))
+    }
 }

@@ -31,6 +31,8 @@ pub decimal-last : (n : ℕ) → 10 ≤ n → n < 2 ^ 64 → decimal n ≡ decim
 decimal-last n h g = digits_last 19 n h
     ∙ ap (λ (d : List ℕ). d ++ ((48 + n % 10) ∷ [])) (sym (digits_more 18 (n / 10) (omega arith)))
 
+pub ruleset by_digits = (decimal-one, decimal-last)
+
 -- A number below 10 ^ (j + 1) has at most j + 1 digits.
 length_digits : (k j n : ℕ) → n < 10 ^ suc j → length (digits k n) ≤ suc j
 unfolding digits

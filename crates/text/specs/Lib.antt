@@ -1,4 +1,4 @@
--- Texts in an output, numbers in decimal, and the lines of the rules by their parts.
+-- A text in an output, numbers in decimal, and the lines that are printed.
 pub mod Puts
 pub mod Decimal
 pub mod Texts

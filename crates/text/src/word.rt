@@ -1,58 +1,85 @@
-// Writes words, numbers and names into an output, one after another (R60, R61). Each function here answers the place after what it wrote.
-ghost use Rattle.std.specs.Prelude.{◌∷◌, []};
+// A text that is put into an output, and the words, numbers and names that are put behind it (R60, R61).
+#![tactic(auto, using(crate::specs::Puts::words), unfolding(rules::specs::Text::ascii))]
+
+ghost use Rattle.std.specs.Prelude.{◌∷◌, [], ◌≡◌};
 ghost use Rattle.rules.specs.Lines.{decimal, cell_name, row_name};
-ghost use Rattle.text.specs.Puts.{Fits, Puts};
+ghost use Rattle.text.specs.Puts.{place, Fits, with_word};
 
 use base::kinds::{Cell, Row};
 
-// One byte.
-pub fn put_byte(out: &mut [u8], at: usize, b: u8) -> usize
-    requires { Fits (b ∷ []) at out.old }
-    ensures { Puts (b ∷ []) at out.old out.new result }
-{
-    out[at] = b;
-    at + 1
+// The output, and the place after what is put.
+#[derive(Drop)]
+pub struct Text<'a> {
+    out: &'a mut [u8],
+    at: usize,
 }
 
-// The bytes of a text.
-pub fn put_text(out: &mut [u8], at: usize, text: &[u8]) -> usize
-    requires { Fits text.now at out.old }
-    ensures { Puts text.now at out.old out.new result }
-{
-    let mut i = 0;
-    while i < text.len() {
-        out[at + i] = text[i];
-        i += 1;
+impl<'a> Text<'a> {
+    // Nothing yet, at the start of an output.
+    pub fn new(out: &'a mut [u8]) -> Text<'a>
+        ensures { (result.out ≡ out.entry) × (result.at ≡ 0) }
+    {
+        Text { out, at: 0 }
     }
-    at + i
-}
 
-// R60: a number in decimal: the digits before the last, and the last.
-pub fn put_decimal(out: &mut [u8], at: usize, n: usize) -> usize
-    requires { Fits (decimal n) at out.old }
-    ensures { Puts (decimal n) at out.old out.new result }
-{
-    if n < 10 {
-        return put_byte(out, at, 48 + n as u8);
+    // How many bytes the text has.
+    #[tactic(auto, unfolding(crate::specs::Puts::place))]
+    pub fn len(&self) -> usize
+        ensures { result ≡ place self.now }
+    {
+        self.at
     }
-    let last = put_decimal(out, at, n / 10);
-    put_byte(out, last, 48 + (n % 10) as u8)
-}
 
-// R61: a cell.
-pub fn put_cell(out: &mut [u8], at: usize, c: Cell) -> usize
-    requires { Fits (cell_name c.0) at out.old }
-    ensures { Puts (cell_name c.0) at out.old out.new result }
-{
-    let number = put_byte(out, at, b'c');
-    put_decimal(out, number, c.0 as usize)
-}
+    // One byte.
+    #[tactic(auto, unfolding(writer::specs::Put::put_at, crate::specs::Puts::with_word, crate::specs::Puts::place, crate::specs::Puts::size))]
+    pub fn put_byte(&mut self, b: u8)
+        requires { Fits (b ∷ []) self.old }
+        ensures { self.new ≡ with_word self.old (b ∷ []) }
+    {
+        self.out[self.at] = b;
+        self.at += 1;
+    }
 
-// R61: a row.
-pub fn put_row(out: &mut [u8], at: usize, r: Row) -> usize
-    requires { Fits (row_name r.0) at out.old }
-    ensures { Puts (row_name r.0) at out.old out.new result }
-{
-    let number = put_byte(out, at, b'r');
-    put_decimal(out, number, r.0 as usize)
+    // The bytes of a word.
+    #[tactic(auto, using(writer::specs::Put::put_part), unfolding(crate::specs::Puts::with_word, crate::specs::Puts::place, crate::specs::Puts::size))]
+    pub fn put_text(&mut self, word: &[u8])
+        requires { Fits word.now self.old }
+        ensures { self.new ≡ with_word self.old word.now }
+    {
+        let end = self.at + word.len();
+        self.out[self.at..end].copy_from_slice(word);
+        self.at = end;
+    }
+
+    // R60: a number in decimal: the digits before the last, and the last.
+    #[tactic(auto, using(crate::specs::Puts::words, crate::specs::Decimal::by_digits))]
+    pub fn put_decimal(&mut self, n: usize)
+        requires { Fits (decimal n) self.old }
+        ensures { self.new ≡ with_word self.old (decimal n) }
+    {
+        if n < 10 {
+            self.put_byte(48 + n as u8);
+        } else {
+            self.put_decimal(n / 10);
+            self.put_byte(48 + (n % 10) as u8);
+        }
+    }
+
+    // R61: a cell.
+    pub fn put_cell(&mut self, c: Cell)
+        requires { Fits (cell_name c.0) self.old }
+        ensures { self.new ≡ with_word self.old (cell_name c.0) }
+    {
+        self.put_byte(b'c');
+        self.put_decimal(c.0 as usize);
+    }
+
+    // R61: a row.
+    pub fn put_row(&mut self, r: Row)
+        requires { Fits (row_name r.0) self.old }
+        ensures { self.new ≡ with_word self.old (row_name r.0) }
+    {
+        self.put_byte(b'r');
+        self.put_decimal(r.0 as usize);
+    }
 }

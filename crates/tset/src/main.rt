@@ -1,12 +1,12 @@
 // Prints the transfer set of the program file on standard input, or its refusal (R64).
 #![tactic(auto)]
 
-ghost use Rattle.std.specs.Prelude.{◌≡◌, ◌≤◌, IfOk, length, take};
+ghost use Rattle.std.specs.Prelude.{◌≡◌, ◌≤◌, length, take};
 ghost use Rattle.rules.specs.Lines as R;
 
+use input::read_full;
 use lines::print_built;
 use std::io;
-use std::io::Read;
 
 // R64: the text of a file of at most 34,312 bytes, built in the room that is fixed. Answers how many bytes the text has.
 fn print_file(file: &[u8], text: &mut [u8]) -> usize
@@ -19,22 +19,6 @@ fn print_file(file: &[u8], text: &mut [u8]) -> usize
     let mut heads = [0u16; 16384];
     let mut set = [0u8; 40957];
     print_built(file, &mut rows, &mut numbers, &mut heads, &mut set, text)
-}
-
-// Reads until what was lent is full or the input ends, and says how many bytes came.
-fn read_full(from: &mut impl Read, lent: &mut [u8]) -> io::Result<usize>
-    ensures came { IfOk result (λ n. n ≤ length lent.old) }
-    ensures kept { length lent.new ≡ length lent.old }
-{
-    let mut done = 0;
-    while done < lent.len() {
-        let got = from.read(&mut lent[done..])?;
-        if got == 0 {
-            break;
-        }
-        done += got;
-    }
-    Ok(done)
 }
 
 // Reads at most 34,312 bytes: what comes later cannot change the answer (R64).

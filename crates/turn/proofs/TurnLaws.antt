@@ -1,5 +1,5 @@
 -- The turn of one instruction: what its parts need, and a law for each end (R38).
-use Rattle.std.specs.Prelude.{ℕ, suc, ◌+◌, ◌-◌, ◌*◌, ◌≤◌, ◌<◌, ◌≡◌, refl, true, false, List, ◌∷◌, length}
+use Rattle.std.specs.Prelude.{ℕ, zero, suc, ◌+◌, ◌-◌, ◌*◌, ◌≤◌, ◌<◌, ◌≡◌, List, ◌∷◌, length, Ok}
 use Rattle.std.proofs.Common.{sym, ap, subst, ◌∙◌, arith}
 use Rattle.std.proofs.Math.Decide.{dec_lt}
 use Rattle.rules.specs.Verdict.{granted}
@@ -8,36 +8,41 @@ use Rattle.rules.specs.Shape as R
 use Rattle.rules.specs.Shape.{vars, cells, check_shape}
 use Rattle.rules.specs.Instr.{Plain, INIT, Instr, plain, END}
 use Rattle.rules.specs.ProgramFile.{Program}
-use Rattle.rules.specs.Sets.{Heads}
+use Rattle.rules.specs.Rows.{Row}
+use Rattle.rules.specs.Sets.{Heads, after}
 use Rattle.rules.specs.Build as B
 use Rattle.rules.specs.Build.{own, set_at, turn_heads, turn}
-use Rattle.rules.specs.Room.{room}
-use Rattle.laws.specs.Verdict.{no_false}
 use Rattle.laws.specs.Canonical.{Names, WellFormed, Canonical}
 use Rattle.laws.specs.ProgramFile.{read-shape}
 use Rattle.laws.specs.Grow.{Ext, ext_refl, ext_length, grown_ext}
-use Rattle.laws.specs.After.{Stands, over, stands_ext}
+use Rattle.laws.specs.After.{Stands, over, stands_ext, after-grown}
 use Rattle.laws.specs.Build.{own_acts, own-grown, turn_heads-grown}
 use Rattle.laws.specs.Transfer.{Made, made-from, turn-from}
-use Rattle.base.specs.Answers.{shape_of}
+use Rattle.base.specs.Answers.{Answer, shape_of}
 use Rattle.base.specs.declared.shape.Shape.{Shape}
 use Rattle.base.specs.declared.kinds.Instr as K
 use Rattle.program.specs.Stages.{instr_in}
-use Rattle.program.specs.Codes.{on_label, Tells}
+use Rattle.program.specs.Codes.{Tells}
+use Rattle.reader.specs.declared.code.LabelCode.{LabelCode}
+use Rattle.reader.specs.Codes.{on_label}
 use Rattle.program.specs.Standing.{program_in, instr_at, Standing, standing-at, formed, deep, most-cells, tells}
+use Rattle.base.specs.declared.refusal.Refusal.{Refusal}
 use Rattle.table.specs.declared.Table.{Table}
-use Rattle.rows.specs.Making.{Drawn, over-more}
+use Rattle.table.specs.Append.{Kept, room_of}
+use Rattle.rows.specs.Table.{Stored, Exceeds}
+use Rattle.rows.specs.Stored.{exceeds-more, kept_refl}
+use Rattle.rows.specs.Making.{Drawn, Draws, draws-before}
 use Rattle.own.specs.Owning.{Owning, Owns}
 use Rattle.reader.specs.declared.body.Body.{Body}
-use Rattle.reader.specs.declared.body.Body.TheVariants.{Label}
+use Rattle.reader.specs.declared.body.Body.TheVariants.{Label, Unknown}
 use Rattle.rewrite.specs.Follow.{Following, Follows}
-use Rattle.turn.specs.Turning.{built, slot, Building, turn_at, Turning, Jumping, Jumps}
+use Rattle.turn.specs.Turning.{built, slot, Building, turn_at, Turning, Jumps}
 use Rattle.turn.specs.Slots.{slot-inside, slot-length, put_at, length-put, slot-put, slot_kept}
 use Rattle.turn.proofs.JumpLaws.{turn-jumped}
 
 -- ---- one turn more
 
-module _ (file : List ℕ) (sh : Shape) (n i : ℕ) (r : Standing file sh n i) where
+module _ {file : List ℕ} {sh : Shape} {n i : ℕ} (r : Standing file sh n i) where
   abbrev P : Program
   P = program_in file
 
@@ -47,25 +52,26 @@ module _ (file : List ℕ) (sh : Shape) (n i : ℕ) (r : Standing file sh n i) w
   built-is = turn-from P i (omega (arith, r.low, r.count))
 
   -- A turn only grows the table.
-  turn-grows : length (built file (suc i)).tab ≤ length (turn_at file i).tab
-  turn-grows = ext_length (grown_ext (turn_heads-grown P.shape i (instr_at file i) (built file (suc i)).tab _))
+  turn-grows : length (built file (suc i)).tab ≤ length (built file i).tab
+  turn-grows = rw built-is (ext_length (grown_ext (turn_heads-grown P.shape i (instr_at file i) (built file (suc i)).tab _)))
 
-  -- A state that is refused stands for what is built from T(i) on, too.
-  pub turn-over : (rows : List ℕ) (s : Table) (heads : List ℕ) → Building file sh n rows s heads (i + 1) → s.refused ≡ true
-      → Building file sh n rows s heads i
-  turn-over rows s heads b e =
-      let z : i + 1 ≡ suc i = omega arith in
-      let longer : length (built file (suc i)).tab ≤ length (built file i).tab = rw built-is turn-grows in
-      record {
-        standing = b.standing;
-        high = omega (arith, r.low);
-        heads_lent = b.heads_lent;
-        holds = over-more (rw z at b.holds) e e refl longer;
-        slots = λ f. absurd (no_false (sym f ∙ e));
-      }
+-- So do all turns.
+built-longer : {file : List ℕ} {sh : Shape} {n : ℕ} → Standing file sh n 0 → (i : ℕ) → i ≤ n
+    → length (built file i).tab ≤ length (built file 0).tab
+built-longer r zero h = omega arith
+built-longer {file} {sh} {n} r (suc i) h =
+    omega (arith, turn-grows (standing-at file sh n 0 r i (omega arith)), built-longer r i (omega arith))
 
-module _ (file : List ℕ) (sh : Shape) (n i : ℕ) (rows : List ℕ) (s : Table) (numbers : ℕ) (heads made : List ℕ)
-    (w : Turning file sh n i rows s numbers heads made) where
+-- R38: instruction i is plain, and its own set is made.
+pub record Acted (file : List ℕ) (sh : Shape) (i : ℕ) (s : Table) (made : List ℕ) (s' : Table) (made' : List ℕ) : Type 0 where
+  pub what : Plain
+  pub is : instr_at file i ≡ plain what
+  pub kept : Kept s s'
+  pub owns : Owns (shape_of sh) what s (Ok tt) s' made'
+  pub size : length made' ≡ length made
+
+module _ {file : List ℕ} {sh : Shape} {n i : ℕ} {s : Table} {numbers : ℕ} {heads made : List ℕ}
+    (w : Turning file sh n i s numbers heads made) where
   abbrev C : ℕ
   C = cells (shape_of sh)
 
@@ -91,7 +97,7 @@ module _ (file : List ℕ) (sh : Shape) (n i : ℕ) (rows : List ℕ) (s : Table
   canonical = subst (λ (x : R.Shape). Canonical (cells x) b.tab) (sym place.shaped) made-on.canonical
 
   slot_is : (l : ℕ) → i < l → l < n → slot C heads l ≡ set_at b (suc i) l
-  slot_is l h k = w.built-on.slots w.kept l h k
+  slot_is l h k = w.built-on.slots l h k
 
   shaped : check_shape old (shape_of sh) ≡ granted tt
   shaped =
@@ -115,9 +121,8 @@ module _ (file : List ℕ) (sh : Shape) (n i : ℕ) (rows : List ℕ) (s : Table
 
   -- T(i+1) after heads over a table that has only grown.
   followed : (y : List ℕ) → y ≡ slot C heads (i + 1) → suc i < n → (X : Heads) → Stands C X → Ext b.tab X.tab
-      → (rows' : List ℕ) (s' : Table) (made' : List ℕ) → Drawn rows' s' made' X → length made' ≡ C → length rows' ≡ length rows
-      → Following (shape_of sh) y rows' s' numbers made'
-  followed y e k X p m rows' s' made' d c size =
+      → {s' : Table} {made' : List ℕ} → Drawn s' made' X → length made' ≡ C → Kept s s' → Following (shape_of sh) y s' numbers made'
+  followed y e k X p m d c kept =
       let q = next-is y e k in
       record {
         first = X;
@@ -126,7 +131,7 @@ module _ (file : List ℕ) (sh : Shape) (n i : ℕ) (rows : List ℕ) (s : Table
         second = rw q (stands_ext p.canonical m (set_at b (suc i) (suc i)) (stands_at (suc i) (omega arith) k));
         shaped = shaped;
         count = c;
-        room = rw size w.numbers_lent;
+        room = rw kept.size w.numbers_lent;
       }
 
   -- What the body of instruction i tells.
@@ -142,118 +147,138 @@ module _ (file : List ℕ) (sh : Shape) (n i : ℕ) (rows : List ℕ) (s : Table
   cut_in : (l : ℕ) → l < n → (c : ℕ) → c ≡ C → (l ≤ 512) × (c ≤ 217) × (l * c + c ≤ length heads)
   cut_in l k c q = rw q (omega (arith, place.most), most-cells file sh n i place, slot-ends l k)
 
-  -- R14: after a plain instruction there is a next one.
-  pub plain-next : (p : Plain) → instr_at file i ≡ plain p → (c : ℕ) → c ≡ C → (i + 1 ≤ 512) × (c ≤ 217) × ((i + 1) * c + c ≤ length heads)
-  plain-next p x = cut_in (i + 1) (omega (arith, (fine p x).1))
-
   -- ---- the own set, and T(i+1) after it
 
-  pub owning : Owning sh rows s made
+  pub owning : Owning sh s made
   owning = record {
     given = record {
       inside = record { deep = deep file sh n i place; most = most-cells file sh n i place };
-      opened = record { table = b.tab; canonical = canonical; holds = w.built-on.holds };
+      opened = record { table = b.tab; canonical = canonical; stored = w.built-on.stored };
     };
     count = w.count;
   }
 
-  module _ (p : Plain) (rows' : List ℕ) (s' : Table) (made' : List ℕ) (g : Owns (shape_of sh) p rows s rows' s' made') where
-    owned : Drawn rows' s' made' (own b.tab (shape_of sh) p)
-    owned = g b.tab canonical w.built-on.holds
+  -- No row is left for the own set.
+  pub own_over : {e : Refusal} (p : Plain) → ((t : List Row) → Canonical C t → Stored s t → Exceeds s e (own t (shape_of sh) p).tab)
+      → instr_at file i ≡ plain p → Exceeds s e (turn_at file i).tab
+  own_over p g x =
+      let h = own b.tab (shape_of sh) p in
+      rw (turn_as (plain p) x)
+      (exceeds-more (kept_refl s) (g b.tab canonical w.built-on.stored)
+      (ext_length (grown_ext (after-grown h.tab h.heads h.tab (set_at b (suc i) (suc i))))))
 
-    -- R38: END's turn is the own set of INIT.
-    pub end_turned : p ≡ INIT → instr_at file i ≡ END → Drawn rows' s' made' (turn_at file i)
-    end_turned q x = rw (turn_as END x) (rw q at owned)
+  -- R38: END's turn is the own set of INIT.
+  pub end_turned : (r : Answer (Unit {0})) (s' : Table) (made' : List ℕ) → Owns (shape_of sh) INIT s r s' made' → instr_at file i ≡ END
+      → Draws s r s' made' (turn_at file i)
+  end_turned r s' made' g x = rw (turn_as END x) (g b.tab canonical w.built-on.stored)
 
-    module _ (x : instr_at file i ≡ plain p) (y : List ℕ) (e : y ≡ slot C heads (i + 1)) where
-      own-stands : Stands C (own b.tab (shape_of sh) p)
-      own-stands = (own_acts b.tab (shape_of sh) (deep file sh n i place) canonical p (fine p x).0).stands
+  module _ {s' : Table} {made' : List ℕ} (a : Acted file sh i s made s' made') where
+    abbrev h : Heads
+    h = own b.tab (shape_of sh) a.what
 
-      pub own-following : length made' ≡ length made → length rows' ≡ length rows → Following (shape_of sh) y rows' s' numbers made'
-      own-following c size =
-          followed y e (fine p x).1 (own b.tab (shape_of sh) p) own-stands (grown_ext (own-grown b.tab (shape_of sh) p)) rows' s' made'
-          owned (c ∙ w.count) size
+    -- R14: after a plain instruction there is a next one.
+    pub plain-next : (c : ℕ) → c ≡ C → (i + 1 ≤ 512) × (c ≤ 217) × ((i + 1) * c + c ≤ length heads)
+    plain-next = cut_in (i + 1) (omega (arith, (fine a.what a.is).1))
+
+    module _ (y : List ℕ) (e : y ≡ slot C heads (i + 1)) where
+      pub own-following : Following (shape_of sh) y s' numbers made'
+      own-following =
+          let f = fine a.what a.is in
+          followed y e f.1 h (own_acts b.tab (shape_of sh) (deep file sh n i place) canonical a.what f.0).stands
+          (grown_ext (own-grown b.tab (shape_of sh) a.what)) (a.owns b.tab canonical w.built-on.stored) (a.size ∙ w.count) a.kept
 
       -- R38: a plain instruction's turn is T(i+1) after its own set.
-      pub plain-turned : (rows'' : List ℕ) (s'' : Table) (made'' : List ℕ) → Follows (shape_of sh) y rows' s' made' rows'' s'' made''
-          → Drawn rows'' s'' made'' (turn_at file i)
-      plain-turned rows'' s'' made'' f =
-          let m = grown_ext (own-grown b.tab (shape_of sh) p) in
-          let q = stands_ext own-stands.canonical m (set_at b (suc i) (suc i)) (stands_at (suc i) (omega arith) (fine p x).1) in
-          rw (turn_as (plain p) x)
-          (rw (next-is y e (fine p x).1) at (f (own b.tab (shape_of sh) p) owned own-stands (rw (next-is y e (fine p x).1) q)))
+      pub plain-turned : (r : Answer (Unit {0})) (s'' : Table) (made'' : List ℕ)
+          → Follows (shape_of sh) y s' numbers made' r s'' made'' → Draws s r s'' made'' (turn_at file i)
+      unfolding followed own-following
+      plain-turned r s'' made'' f =
+          let is : after h.tab h.heads h.tab y ≡ turn_at file i
+          = ap (after h.tab h.heads h.tab) (next-is y e (fine a.what a.is).1) ∙ sym (turn_as (plain a.what) a.is) in
+          rw is at (draws-before a.kept r s'' made'' (after h.tab h.heads h.tab y) (f own-following))
+
+  -- R10: each code is known.
+  pub never-unknown : {x : Body} → x ≡ instr_in file n i → x ≡ Unknown → ⊥
+  never-unknown e q = told e q
 
   -- ---- jumps and calls
 
-  module _ (c : ℕ) (l : K.Instr) (t : Tells file (vars (shape_of sh)) n i (instr_at file i) (Label c l)) where
+  module _ (c : LabelCode) (l : K.Instr) (t : Tells file (vars (shape_of sh)) n i (instr_at file i) (Label c l)) where
     -- T(l) is there to be copied, and T(i+1) is there too.
     pub label_cut : (d : ℕ) → d ≡ C → (l.0 ≤ 512) × (d ≤ 217) × (l.0 * d + d ≤ length heads)
-    label_cut = cut_in l.0 t.3
+    label_cut = cut_in l.0 t.1
 
     pub label_next : (d : ℕ) → d ≡ C → (i + 1 ≤ 512) × (d ≤ 217) × ((i + 1) * d + d ≤ length heads)
-    label_next = cut_in (i + 1) (omega (arith, t.2, t.3))
+    label_next = cut_in (i + 1) (omega (arith, t.0, t.1))
 
     pub label_length : length (slot C heads l.0) ≡ length made
-    label_length = slot-length C heads l.0 (slot-ends l.0 t.3) ∙ sym w.count
+    label_length = slot-length C heads l.0 (slot-ends l.0 t.1) ∙ sym w.count
 
     module _ (y : List ℕ) (e : y ≡ slot C heads (i + 1)) (made' : List ℕ) (copied : made' ≡ slot C heads l.0) where
       abbrev X : Heads
       X = over b.tab (set_at b (suc i) l.0)
 
-      drawn : Drawn rows s made' X
-      drawn = record { holds = w.built-on.holds; same = λ _. copied ∙ slot_is l.0 t.2 t.3 }
+      drawn : Drawn s made' X
+      drawn = record { stored = w.built-on.stored; same = copied ∙ slot_is l.0 t.0 t.1 }
 
-      pub jumping : Jumping (shape_of sh) c y rows s numbers made'
-      jumping = record {
-        following = followed y e (omega (arith, t.2, t.3)) X (stands_at l.0 t.2 t.3) (ext_refl b.tab) rows s made'
-            drawn (ap length copied ∙ slot-length C heads l.0 (slot-ends l.0 t.3)) refl;
-        codes = (t.0, t.1);
-      }
+      pub jumping : Following (shape_of sh) y s numbers made'
+      jumping = followed y e (omega (arith, t.0, t.1)) X (stands_at l.0 t.0 t.1) (ext_refl b.tab)
+          drawn (ap length copied ∙ slot-length C heads l.0 (slot-ends l.0 t.1)) (kept_refl s)
 
       -- R38: what is left is the turn of instruction i.
-      pub jump_turned : (rows' : List ℕ) (s' : Table) (made'' : List ℕ) → Jumps (shape_of sh) c y rows s made' rows' s' made''
-          → Drawn rows' s' made'' (turn_at file i)
-      jump_turned rows' s' made'' g =
-          let k : suc i < n = omega (arith, t.2, t.3) in
-          let q = stands_at (suc i) (omega arith) k in
-          rw (turn_as (on_label c l.0) t.4
-          ∙ turn-jumped (shape_of sh) i c l.0 b.tab (set_at b (suc i)) t.0 t.1)
-          (rw (next-is y e k) at (g X drawn (stands_at l.0 t.2 t.3) (rw (next-is y e k) q)))
+      pub jump_turned : (r : Answer (Unit {0})) (s' : Table) (made'' : List ℕ)
+          → Jumps (shape_of sh) c y s numbers made' r s' made'' → Draws s r s' made'' (turn_at file i)
+      unfolding followed jumping
+      jump_turned r s' made'' g =
+          let k : suc i < n = omega (arith, t.0, t.1) in
+          rw (turn_as (on_label c l.0) t.2 ∙ turn-jumped (shape_of sh) i c l.0 b.tab (set_at b (suc i)))
+          (rw (next-is y e k) at (g jumping))
 
   -- ---- the heads in their slot
 
   -- R38: with the heads of T(i) in their slot, which begins at a, T(i) and on are built.
-  pub turn-built : (rows' : List ℕ) (s' : Table) (made' : List ℕ) → Drawn rows' s' made' (turn_at file i) → length made' ≡ length made
-      → (ys : List ℕ) → ys ≡ made' → (a c : ℕ) → a ≡ i * c → c ≡ C → Building file sh n rows' s' (put_at a (a + c - a) heads ys) i
-  turn-built rows' s' made' d size ys same a c e q =
+  pub turn-built : {s' : Table} {made' : List ℕ} → Drawn s' made' (turn_at file i) → length made' ≡ length made
+      → (ys : List ℕ) → ys ≡ made' → (a c : ℕ) → a ≡ i * c → c ≡ C → Building file sh n s' (put_at a (a + c - a) heads ys) i
+  turn-built {made' = made'} d size ys same a c e q =
       let z : a + c - a ≡ C = omega arith in
       let count : length made' ≡ C = size ∙ w.count in
       let inside = slot-ends i w.low in
-      let is = built-is file sh n i place in
+      let is = built-is place in
       rw (z, same, e, q) (record {
         standing = w.built-on.standing;
         high = omega (arith, w.low);
         heads_lent = omega (arith, length-put C heads i made' count inside, w.built-on.heads_lent);
-        holds = rw is d.holds;
-        slots = λ f l h m. elim (dec_lt i l) [
+        stored = rw is d.stored;
+        slots = λ l h m. elim (dec_lt i l) [
           | yes g ↦
               let y : l - i ≡ suc (l - suc i) = omega arith in
               slot_kept C heads i made' count inside l g ∙ slot_is l g m ∙ rw (is, y)
           | no g ↦
               let y : l ≡ i = omega arith in
               let o : i - i ≡ 0 = omega arith in
-              rw (y, is, o) (slot-put C heads i made' count inside ∙ d.same f)
+              rw (y, is, o) (slot-put C heads i made' count inside ∙ d.same)
         ];
       })
 
-module _ (file : List ℕ) (sh : Shape) (n i : ℕ) (rows : List ℕ) (s : Table) (heads : List ℕ)
-    (b : Building file sh n rows s heads (i + 1)) where
+  -- No row is left for it.
+  pub turn-full : {e : Refusal} → Exceeds s e (turn_at file i).tab → Exceeds s e (built file i).tab
+  turn-full o = rw (built-is place) o
+
+module _ {file : List ℕ} {sh : Shape} {n : ℕ} (i : ℕ) {s : Table} {heads : List ℕ} (b : Building file sh n s heads (i + 1)) where
   -- The instruction whose turn it is.
   pub due : Standing file sh n i
   due = standing-at file sh n 0 b.standing i (omega (arith, b.high))
 
-  pub turning : s.refused ≡ false → (numbers : ℕ) → room (length rows) ≤ numbers → (made : List ℕ) → length made ≡ cells (shape_of sh)
-      → Turning file sh n i rows s numbers heads made
-  turning f numbers l made c =
+  -- R1, R2: its heads have room in the frame.
+  pub cells_few : cells (shape_of sh) ≤ 217
+  cells_few = most-cells file sh n i due
+
+  pub turning : (numbers : ℕ) → room_of s ≤ numbers → (made : List ℕ) → length made ≡ cells (shape_of sh)
+      → Turning file sh n i s numbers heads made
+  turning numbers l made c =
       let z : i + 1 ≡ suc i = omega arith in
-      record { low = omega (arith, b.high); built-on = rw z at b; kept = f; numbers_lent = l; count = c }
+      record { low = omega (arith, b.high); built-on = rw z at b; numbers_lent = l; count = c }
+
+-- No row is left for a turn, so none is for all of them.
+pub turns-full : {file : List ℕ} {sh : Shape} {n j : ℕ} {s₀ s : Table} {heads : List ℕ} {e : Refusal} (i : ℕ) → i ≤ j
+    → Building file sh n s heads j → Kept s₀ s → Exceeds s e (built file i).tab → Exceeds s₀ e (built file 0).tab
+turns-full i h b k o = exceeds-more k o (built-longer b.standing i (omega (arith, b.high)))

@@ -3,12 +3,6 @@ use Rattle.std.specs.Prelude.{ℕ, suc, ◌+◌, ◌-◌, ◌*◌, ◌≤◌, �
 use Rattle.std.proofs.Common.{sym, ap, ◌∙◌, arith, mul-le-mul_right, length-append, length-drop, length-take-le, drop-drop, take_at, drop_at}
 use Rattle.turn.specs.Turning.{slot}
 
--- R38: where the heads of T(i) begin and end, for C cells and n instructions.
-pub slot-most : (i C : ℕ) → i ≤ 512 → C ≤ 217 → i * C ≤ 111104
-slot-most i C h k =
-    let a : i * C ≤ 512 * C = mul-le-mul_right C h in
-    omega arith
-
 pub slot-inside : (l n C : ℕ) → l < n → l * C + C ≤ n * C
 slot-inside l n C h =
     let a : suc l * C ≤ n * C = mul-le-mul_right C h in
@@ -57,11 +51,6 @@ module _ (C : ℕ) (heads : List ℕ) (i : ℕ) (ys : List ℕ) (size : length y
 
 -- A slot from a on, as the code cuts it out by c cells.
 module _ (C l a c : ℕ) (e : a ≡ l * c) (q : c ≡ C) where
-  pub slot_cut : (heads : List ℕ) → take (a + c - a) (drop a heads) ≡ slot C heads l
-  slot_cut heads =
-      let z : a + c - a ≡ C = omega arith in
-      rw (z, e, q)
-
   pub slot-fits : (m : ℕ) → l * C + C ≤ m → a + c ≤ m
   slot-fits m h =
       let z : a ≡ l * C = rw q at e in

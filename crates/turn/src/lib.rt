@@ -3,15 +3,19 @@
 
 ghost use Rattle.std.specs.Prelude.{◌≡◌, ◌+◌, ◌*◌, ◌≤◌, length};
 ghost use Rattle.base.specs.Answers.{shape_of};
-ghost use Rattle.rows.specs.Making.{Drawn};
-ghost use Rattle.turn.specs.Turning.{slot, Jumping, Jumps, Turning, turn_at};
+ghost use Rattle.table.specs.Append.{Kept};
+ghost use Rattle.rows.specs.Making.{Draws};
+ghost use Rattle.rewrite.specs.Follow.{Following};
+ghost use Rattle.turn.specs.Turning.{slot, Jumps, Turning, turn_at};
 
 use base::kinds::{Instr, Row};
+use base::refusal::Refusal;
 use base::shape::Shape;
 use choice::choose_heads;
 use own::{own_alone, own_value, own_variable};
 use program::body::instr_at;
 use reader::body::Body;
+use reader::code::{AloneCode, LabelCode};
 use rewrite::follow;
 use table::Table;
 
@@ -20,11 +24,7 @@ pub fn copy_heads(from: &[u16], to: &mut [u16])
     requires { length from.now ≡ length to.old }
     ensures { to.new ≡ from.now }
 {
-    let mut i = 0;
-    while i < to.len() {
-        to[i] = from[i];
-        i += 1;
-    }
+    to.copy_from_slice(from);
 }
 
 // R38: where the heads of T(i) begin.
@@ -48,29 +48,26 @@ fn slot_in<'a>(heads: &'a [u16], l: Instr, cells: usize) -> &'a [u16]
 // R38: a jump or a call by its code, where `made` has T(l), and `next` is T(i+1).
 fn jump_heads(
     shape: Shape,
-    code: u8,
+    code: LabelCode,
     next: &[u16],
-    rows: &mut [u64],
-    table: Table,
+    table: &mut Table,
     numbers: &mut [u16],
     made: &mut [u16],
-) -> Table
-    requires { Jumping (shape_of shape) code next.now rows.old table (length numbers.old) made.old }
-    ensures { Jumps (shape_of shape) code next.now rows.old table made.old rows.new result
-        made.new }
+) -> Result<(), Refusal>
+    requires { Following (shape_of shape) next.now table.old (length numbers.old) made.old }
+    ensures kept { Kept table.old table.new }
+    ensures jumps { Jumps (shape_of shape) code next.now table.old (length numbers.old) made.old result table.new made.new }
 {
-    if code == 48 {
-        return table;
-    }
     let f = Row::of_cell(shape.flag());
-    if code == 49 {
-        return choose_heads(f, next, rows, table, made);
+    match code {
+        LabelCode::Jp => Ok(()),
+        LabelCode::Jpc => choose_heads(f, next, table, made),
+        LabelCode::Js => follow(shape, next, table, numbers, made),
+        LabelCode::Jsc => {
+            follow(shape, next, table, numbers, made)?;
+            choose_heads(f, next, table, made)
+        }
     }
-    let called = follow(shape, next, rows, table, numbers, made);
-    if code == 50 {
-        return called;
-    }
-    choose_heads(f, next, rows, called, made)
 }
 
 // R38: the heads of T(i): an instruction's own set and T(i+1) after it, what its jump or call leads to, or for END the own set alone.
@@ -80,43 +77,30 @@ pub fn turn_heads(
     n: usize,
     i: Instr,
     heads: &[u16],
-    rows: &mut [u64],
-    table: Table,
+    table: &mut Table,
     numbers: &mut [u16],
     made: &mut [u16],
-) -> Table
-    requires { Turning file.now shape n i.0 rows.old table (length numbers.old) heads.now made.old }
-    ensures { Drawn rows.new result made.new (turn_at file.now i.0) }
+) -> Result<(), Refusal>
+    requires { Turning file.now shape n i.0 table.old (length numbers.old) heads.now made.old }
+    ensures kept { Kept table.old table.new }
+    ensures turned { Draws table.old result table.new made.new (turn_at file.now i.0) }
 {
     let cells = shape.cells();
     let next = Instr(i.0 + 1);
     match instr_at(file, n, i) {
-        Body::Alone(code) => {
-            let own = own_alone(shape, code, rows, table, made);
-            if code == 10 {
-                return own;
-            }
-            follow(shape, slot_in(heads, next, cells), rows, own, numbers, made)
-        }
-        Body::Value(code, at) => {
-            let own = own_value(file, shape, code, at, rows, table, made);
-            follow(shape, slot_in(heads, next, cells), rows, own, numbers, made)
-        }
-        Body::Variable(code, b) => {
-            let own = own_variable(shape, code, b, rows, table, made);
-            follow(shape, slot_in(heads, next, cells), rows, own, numbers, made)
-        }
+        Body::Alone(code) => match code {
+            AloneCode::End => return own_alone(shape, code, table, made),
+            _ => own_alone(shape, code, table, made)?,
+        },
+        Body::Value(code, at) => own_value(file, shape, code, at, table, made)?,
+        Body::Variable(code, b) => own_variable(shape, code, b, table, made)?,
         Body::Label(code, l) => {
             copy_heads(slot_in(heads, l, cells), made);
-            jump_heads(
-                shape,
-                code,
-                slot_in(heads, next, cells),
-                rows,
-                table,
-                numbers,
-                made,
-            )
+            let ahead = slot_in(heads, next, cells);
+            return jump_heads(shape, code, ahead, table, numbers, made);
         }
+        // An accepted program has no such code.
+        Body::Unknown => unreachable!(),
     }
+    follow(shape, slot_in(heads, next, cells), table, numbers, made)
 }

@@ -2,10 +2,11 @@
 #![tactic(auto)]
 
 ghost use Rattle.std.specs.Prelude.{◌+◌, ◌≤◌, length};
-ghost use Rattle.rules.specs.Room.{room};
-ghost use Rattle.turn.specs.Turning.{Turning, Building};
+ghost use Rattle.table.specs.Append.{Kept, room_of};
+ghost use Rattle.turn.specs.Turning.{Turning, Building, Builds};
 
 use base::kinds::Instr;
+use base::refusal::Refusal;
 use base::shape::Shape;
 use table::Table;
 use turn::{copy_heads, slot_of, turn_heads};
@@ -16,54 +17,41 @@ fn turn_into(
     shape: Shape,
     n: usize,
     i: Instr,
-    rows: &mut [u64],
-    table: Table,
+    table: &mut Table,
     numbers: &mut [u16],
     heads: &mut [u16],
     made: &mut [u16],
-) -> Table
-    requires { Turning file.now shape n i.0 rows.old table (length numbers.old) heads.old made.old }
-    ensures { Building file.now shape n rows.new result heads.new i.0 }
+) -> Result<(), Refusal>
+    requires { Turning file.now shape n i.0 table.old (length numbers.old) heads.old made.old }
+    ensures kept { Kept table.old table.new }
+    ensures turned { Builds file.now shape n table.old result table.new heads.new i.0 }
 {
-    let after = turn_heads(file, shape, n, i, heads, rows, table, numbers, made);
+    turn_heads(file, shape, n, i, heads, table, numbers, made)?;
     let cells = shape.cells();
     let from = slot_of(i, cells);
     let to = from + cells;
     copy_heads(made, &mut heads[from..to]);
-    after
+    Ok(())
 }
 
-// R38: the turn of instruction i; a table that is refused stays as it is. Lends the heads: a shape has at most 217 cells (R1, R2).
+// R38: the turn of instruction i. Lends the heads: a shape has at most 217 cells (R1, R2).
 fn build_turn(
     file: &[u8],
     shape: Shape,
     n: usize,
     i: Instr,
-    rows: &mut [u64],
-    table: Table,
+    table: &mut Table,
     numbers: &mut [u16],
     heads: &mut [u16],
-) -> Table
-    requires building { Building file.now shape n rows.old table heads.old (i.0 + 1) }
-    requires rows_in_bounds { room (length rows.old) ≤ length numbers.old }
-    ensures { Building file.now shape n rows.new result heads.new i.0 }
+) -> Result<(), Refusal>
+    requires building { Building file.now shape n table.old heads.old (i.0 + 1) }
+    requires rows_in_bounds { room_of table.old ≤ length numbers.old }
+    ensures kept { Kept table.old table.new }
+    ensures builds { Builds file.now shape n table.old result table.new heads.new i.0 }
 {
-    if table.refused {
-        return table;
-    }
     let mut made = [0u16; 217];
     let cells = shape.cells();
-    turn_into(
-        file,
-        shape,
-        n,
-        i,
-        rows,
-        table,
-        numbers,
-        heads,
-        &mut made[..cells],
-    )
+    turn_into(file, shape, n, i, table, numbers, heads, &mut made[..cells])
 }
 
 // R38: all turns, the last instruction first.
@@ -71,20 +59,17 @@ pub fn build_turns(
     file: &[u8],
     shape: Shape,
     n: usize,
-    rows: &mut [u64],
-    start: Table,
+    table: &mut Table,
     numbers: &mut [u16],
     heads: &mut [u16],
-) -> Table
-    requires building { Building file.now shape n rows.old start heads.old n }
-    requires rows_in_bounds { room (length rows.old) ≤ length numbers.old }
-    ensures { Building file.now shape n rows.new result heads.new 0 }
+) -> Result<(), Refusal>
+    requires building { Building file.now shape n table.old heads.old n }
+    requires rows_in_bounds { room_of table.old ≤ length numbers.old }
+    ensures kept { Kept table.old table.new }
+    ensures builds { Builds file.now shape n table.old result table.new heads.new 0 }
 {
-    let mut table = start;
-    let mut i = n;
-    while 0 < i {
-        i -= 1;
-        table = build_turn(file, shape, n, Instr(i as u16), rows, table, numbers, heads);
+    for i in (0..n).rev() {
+        build_turn(file, shape, n, Instr(i as u16), table, numbers, heads)?;
     }
-    table
+    Ok(())
 }

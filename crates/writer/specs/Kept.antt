@@ -1,20 +1,17 @@
 -- The rows that are kept of a table, renumbered, and their bytes.
-use Rattle.std.specs.Prelude.{ℕ, zero, suc, ◌+◌, ◌*◌, ◌-◌, ◌≤◌, ◌<◌, ◌≡◌, Bool, true, false, cond, length, get_or, eqb}
+use Rattle.std.specs.Prelude.{ℕ, zero, suc, ◌+◌, ◌*◌, ◌-◌, ◌≤◌, ◌<◌, ◌≡◌, cond, length, get_or, eqb}
 use Rattle.std.proofs.Math.Path.{refl}
 use Rattle.std.proofs.Common.{ap, ◌∙◌, length-append, eq-eqb, ne_eqb}
 use mathlib.Core.List.{List, [], ◌∷◌, ◌++◌, flat_map}
 use native.Mathlib.Omega.{arith}
 use Rattle.std.proofs.Math.Decide.{dec_lt}
-use Rattle.rules.specs.Lists.{bytes_of}
 use Rattle.rules.specs.Rows.{Row}
 use Rattle.rules.specs.SetFile.{row_bytes}
 use Rattle.laws.specs.Canonical.{Below}
 use Rattle.laws.specs.Squeeze.{ren}
 use Rattle.laws.specs.Fits.{length-row}
-use Rattle.base.specs.declared.kinds.Row as K
 use Rattle.rows.specs.Entries.{node_row, row_of_entry}
 use Rattle.rows.specs.declared.node.Node.{Node}
-use Rattle.rows.specs.declared.node.Node.TheVariants.{Leaf, Not, Two}
 use Rattle.writer.specs.Put.{put_at, length-put, flat_map-one, put-more}
 
 -- R36: what is kept of a row with the new number n: nothing if that is 0, else the row, its operands renumbered.
@@ -38,31 +35,9 @@ kept-longer rows numbers l j (suc n) h = elim (dec_lt n j) [
       (arith, kept-longer rows numbers l j n (omega arith), length-append (kept rows numbers l n) (kept_at rows numbers (l + n)))
 ]
 
--- R36, R42: writing a row, its operands renumbered; a law for each form of it.
+-- R36, R42: writing a row, its operands renumbered.
 pub record PutsRow (numbers : List ℕ) (node : Node) (at : ℕ) (before after : List ℕ) : Type 0 where
   pub is : after ≡ put_at before at (row_bytes (ren numbers (node_row node)))
-
-module _ {numbers : List ℕ} {node : Node} {at : ℕ} {out next : List ℕ} where
-  pub leaf-put : (i : K.Row) → node ≡ Leaf i → next ≡ put_at out at (0 ∷ (bytes_of 2 i.0 ++ bytes_of 2 0))
-      → PutsRow numbers node at out next
-  leaf-put i e q = record { is = rw e q }
-
-  pub not-put : (a : K.Row) (n : ℕ) → node ≡ Not a → n ≡ get_or numbers a.0 0
-      → next ≡ put_at out at (1 ∷ (bytes_of 2 n ++ bytes_of 2 0))
-      → PutsRow numbers node at out next
-  not-put a n e p q = record { is = rw (e, ← p) q }
-
-  pub and-put : (o : Bool) (a b : K.Row) (m n : ℕ) → node ≡ Two o a b → o ≡ true → m ≡ get_or numbers a.0 0
-      → n ≡ get_or numbers b.0 0
-      → next ≡ put_at out at (2 ∷ (bytes_of 2 m ++ bytes_of 2 n))
-      → PutsRow numbers node at out next
-  and-put o a b m n e t p r q = record { is = rw (e, t, ← p, ← r) q }
-
-  pub or_put : (o : Bool) (a b : K.Row) (m n : ℕ) → node ≡ Two o a b → o ≡ false → m ≡ get_or numbers a.0 0
-      → n ≡ get_or numbers b.0 0
-      → next ≡ put_at out at (3 ∷ (bytes_of 2 m ++ bytes_of 2 n))
-      → PutsRow numbers node at out next
-  or_put o a b m n e t p r q = record { is = rw (e, t, ← p, ← r) q }
 
 -- R41: what is kept of row k has room from a place on in an output of `out` bytes.
 pub record OneFits (rows numbers : List ℕ) (k at out : ℕ) : Type 0 where
@@ -89,9 +64,6 @@ pub kept-one : (rows numbers : List ℕ) (k : ℕ) → (get_or numbers k 0 ≡ 0
 kept-one rows numbers k n = rw (ne_eqb (get_or numbers k 0) 0 n)
 
 module _ {rows numbers : List ℕ} {k at : ℕ} where
-  pub one-room : {out : ℕ} → OneFits rows numbers k at out → (get_or numbers k 0 ≡ 0 → ⊥) → at + 5 ≤ out
-  one-room f n = omega (arith, rw (kept-one rows numbers k n) at f.room)
-
   module _ {before : List ℕ} where
     pub puts_none : get_or numbers k 0 ≡ 0 → PutsKept rows numbers k at before before at
     unfolding put_at flat_map
@@ -158,9 +130,3 @@ module _ {rows numbers : List ℕ} {l at : ℕ} {out₀ : List ℕ} where
         begun = omega (arith, r.begun);
         size = ap length p.is ∙ length-put _ _ _ ∙ r.size;
       }
-
-  pub rowing_all : {out : List ℕ} {to k used : ℕ} → Rowing rows numbers l at out₀ out to k → l ≤ used → used ≤ k → k ≤ used
-      → out ≡ put_at out₀ at (flat_map row_bytes (kept rows numbers l (used - l)))
-  rowing_all {k = k} {used = used} r a b c =
-      let e : k ≡ used = omega arith in
-      rw e at r.is

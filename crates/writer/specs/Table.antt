@@ -1,6 +1,6 @@
 -- The set that heads over a table in lent rows are: the rows that are kept, renumbered, are those of the rules.
 use Prim.Native.Nat.{ℕ, zero, suc, ◌+◌, ◌*◌, ◌-◌, ◌≤◌, ◌<◌}
-use Rattle.std.specs.Prelude.{◌≡◌, Bool, true, false, length}
+use Rattle.std.specs.Prelude.{Ok, Err, ◌≡◌, Bool, true, false, length}
 use Rattle.std.proofs.Math.Path.{refl, ap}
 use Rattle.std.proofs.Common.{sym, ap₂, ◌∙◌, length-drop, eq-eqb}
 use mathlib.Core.List.{List, [], ◌++◌, flat_map, append-nil}
@@ -24,7 +24,6 @@ use Rattle.laws.specs.After.{over, carry-stays}
 use Rattle.laws.specs.Squeeze.{ren, Packed, packed}
 use Rattle.base.specs.declared.refusal.Refusal.TheVariants.{NoRoom}
 use Rattle.rows.specs.Entries.{table_in}
-use Rattle.writer.specs.declared.Written.TheVariants.{Length, Refused}
 use Rattle.writer.specs.Writes.{Writes}
 use Rattle.reach.specs.Tabled.{Tabled}
 use Rattle.writer.specs.Put.{put_at, new_heads}
@@ -164,14 +163,14 @@ module _ {sh : Shape} {x rows : List ℕ} {used room : ℕ} (T : Tabled sh x row
   }
 
   pub table_short : (out : List ℕ) → length out < 7 + 2 * C + 5 * (n - (2 + C))
-      → Writes (write_into old used (length out) (set_of sh (over (table_in rows used) x))) (Refused (NoRoom used)) out out
+      → Writes (write_into old used (length out) (set_of sh (over (table_in rows used) x))) (Err (NoRoom used)) out out
   table_short out h = rw set_is (writes_short used out (Z (new_heads new x) used) (omega (arith, file-length)))
 
   pub table-whole : {a b d : List ℕ} (out : List ℕ) → 7 + 2 * C + 5 * (n - (2 + C)) ≤ length out
       → a ≡ put_at out 0 (write_header old 2 sh (n - (2 + C)))
       → b ≡ put_at a 7 (flat_map (bytes_of 2) (new_heads new x))
       → d ≡ put_at b (7 + 2 * C) (flat_map row_bytes (kept rows new (2 + C) (used - (2 + C))))
-      → Writes (write_into old used (length out) (set_of sh (over (table_in rows used) x))) (Length (7 + 2 * C + 5 * (n - (2 + C)))) out d
+      → Writes (write_into old used (length out) (set_of sh (over (table_in rows used) x))) (Ok (7 + 2 * C + 5 * (n - (2 + C)))) out d
   table-whole {a} {b} {d} out h e f g =
       let z = Z (new_heads new x) used in
       let e' : a ≡ put_at out 0 (write_header old 2 sh (length (drop (2 + cells sh) z.tab))) = rw (kept-is, kept-count) e in

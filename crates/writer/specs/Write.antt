@@ -1,5 +1,5 @@
 -- Writing a set whole: the bytes of the rules, or a refusal of a short output; and the set that changes nothing.
-use Rattle.std.specs.Prelude.{ℕ, ◌+◌, ◌*◌, ◌≤◌, ◌<◌, ◌≡◌, drop}
+use Rattle.std.specs.Prelude.{ℕ, Ok, Err, ◌+◌, ◌*◌, ◌≤◌, ◌<◌, ◌≡◌, drop}
 use Rattle.std.proofs.Math.Path.{refl, ap}
 use Rattle.std.proofs.Common.{◌∙◌, drop_of_length-le, lt-ltb, le-ltb}
 use mathlib.Core.List.{List, [], ◌++◌, flat_map}
@@ -18,11 +18,9 @@ use Rattle.laws.specs.Shape.{shape-limits, length-header}
 use Rattle.laws.specs.Rows.{length-base}
 use Rattle.laws.specs.Squeeze.{unchanging-stands}
 use Rattle.laws.specs.Fits.{length-row}
-use Rattle.base.specs.Answers.{refused_by}
+use Rattle.base.specs.Answers.{Answer, refused_by}
 use Rattle.base.specs.declared.refusal.Refusal.{Refusal}
 use Rattle.base.specs.declared.refusal.Refusal.TheVariants.{NoRoom}
-use Rattle.writer.specs.declared.Written.{Written}
-use Rattle.writer.specs.declared.Written.TheVariants.{Length, Refused}
 use Rattle.writer.specs.Writes.{Writes}
 use Rattle.writer.specs.Put.{put_at, put-put, put_whole}
 
@@ -68,12 +66,12 @@ module _ (z : TransferSet) (h : length z.heads ≡ cells z.shape) where
 -- R59: a short output is refused and left as it is; else the bytes are at its beginning.
 module _ (held : ℕ) (out : List ℕ) (z : TransferSet) where
   pub writes_short : length out < length (write_set old z)
-      → Writes (write_into old held (length out) z) (Refused (NoRoom held)) out out
+      → Writes (write_into old held (length out) z) (Err (NoRoom held)) out out
   unfolding write_into
   writes_short h = rw (lt-ltb (length out) (length (write_set old z)) h) (record { answer = refl; output = refl })
 
   pub writes_whole : (n : ℕ) (next : List ℕ) → n ≡ length (write_set old z) → n ≤ length out → next ≡ put_at out 0 (write_set old z)
-      → Writes (write_into old held (length out) z) (Length n) out next
+      → Writes (write_into old held (length out) z) (Ok n) out next
   unfolding write_into
   writes_whole n next e h q = rw (le-ltb (length out) (length (write_set old z)) (omega arith)) (record {
     answer = ap granted e;
@@ -90,12 +88,12 @@ own-length sh = omega (arith, set-length (unchanging_set sh) (unchanging-stands 
 
 module _ (sh : Shape) (C : ℕ) (c : C ≡ cells sh) (out : List ℕ) where
   pub own_short : length out < 7 + 2 * C
-      → Writes (write_into old (leaves sh) (length out) (unchanging_set sh)) (Refused (NoRoom (2 + C))) out out
+      → Writes (write_into old (leaves sh) (length out) (unchanging_set sh)) (Err (NoRoom (2 + C))) out out
   own_short h = rw c (writes_short (leaves sh) out (unchanging_set sh) (omega (arith, own-length sh)))
 
   pub own-whole : 7 + 2 * C ≤ length out → (a b : List ℕ) → a ≡ put_at out 0 (write_header old 2 sh 0)
       → b ≡ put_at a 7 (flat_map (bytes_of 2) (unchanging C))
-      → Writes (write_into old (leaves sh) (length out) (unchanging_set sh)) (Length (7 + 2 * C)) out b
+      → Writes (write_into old (leaves sh) (length out) (unchanging_set sh)) (Ok (7 + 2 * C)) out b
   unfolding put_at flat_map
   own-whole h a b e f =
       let put = set-put (unchanging_set sh) (unchanging-stands (cells sh)).count out a b b
@@ -105,11 +103,11 @@ module _ (sh : Shape) (C : ℕ) (c : C ≡ cells sh) (out : List ℕ) where
 -- R58: the shape is judged first.
 module _ (sh : Shape) (out : List ℕ) where
   pub shape-refused : (x : Refusal) → refused_by x ≡ check_shape old sh
-      → Writes (write_unchanging old sh (length out)) (Refused x) out out
+      → Writes (write_unchanging old sh (length out)) (Err x) out out
   unfolding write_unchanging
   shape-refused x e = rw (← e) (record { answer = refl; output = refl })
 
-  pub shape-granted : (r : Written) (next : List ℕ) → granted tt ≡ check_shape old sh
+  pub shape-granted : (r : Answer ℕ) (next : List ℕ) → granted tt ≡ check_shape old sh
       → Writes (write_into old (leaves sh) (length out) (unchanging_set sh)) r out next
       → Writes (write_unchanging old sh (length out)) r out next
   unfolding write_unchanging

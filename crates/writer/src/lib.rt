@@ -19,20 +19,12 @@ ghost use Rattle.reach.specs.Tabled.{Tabled};
 use crate::put::{put_header, put_heads, put_own_heads, put_rows};
 use base::refusal::Refusal;
 use base::shape::Shape;
-use program::Checked;
 use program::header::check_shape;
 use reach::number::number_reached;
-use table::{Table, room_in};
-
-// How writing a set ended.
-#[derive(Clone, Copy)]
-pub enum Written {
-    Length(usize),
-    Refused(Refusal),
-}
+use table::Table;
 
 // R58, R59: writes the unchanging set of an allowed shape.
-fn put_unchanging(shape: Shape, out: &mut [u8]) -> Written
+fn put_unchanging(shape: Shape, out: &mut [u8]) -> Result<usize, Refusal>
     requires { check_shape old (shape_of shape) ≡ granted tt }
     ensures { Writes (write_into old (leaves (shape_of shape)) (length out.old) (unchanging_set (shape_of shape))) result
         out.old out.new }
@@ -40,22 +32,20 @@ fn put_unchanging(shape: Shape, out: &mut [u8]) -> Written
     let cells = shape.cells();
     let length = 7 + 2 * cells;
     if out.len() < length {
-        return Written::Refused(Refusal::NoRoom((2 + cells) as u32));
+        return Err(Refusal::NoRoom((2 + cells) as u32));
     }
     put_header(out, shape, 0);
     put_own_heads(out, cells);
-    Written::Length(length)
+    Ok(length)
 }
 
 // R58, R59: writes the unchanging set of a shape.
-pub fn write_unchanging(shape: Shape, out: &mut [u8]) -> Written
+pub fn write_unchanging(shape: Shape, out: &mut [u8]) -> Result<usize, Refusal>
     ensures { Writes (write_unchanging old (shape_of shape) (length out.old)) result out.old
         out.new }
 {
-    match check_shape(shape) {
-        Checked::Granted => put_unchanging(shape, out),
-        Checked::Refused(x) => Written::Refused(x),
-    }
+    check_shape(shape)?;
+    put_unchanging(shape, out)
 }
 
 // R36, R41, R59: writes the set that heads over a table are: the rows that they reach, renumbered in order. A short output is untouched.
@@ -66,7 +56,7 @@ fn write_table(
     used: usize,
     numbers: &mut [u16],
     out: &mut [u8],
-) -> Written
+) -> Result<usize, Refusal>
     requires { Tabled (shape_of shape) heads.now rows.now used (length numbers.old) }
     ensures { Writes (write_into old used (length out.old)
         (set_of (shape_of shape) (over (table_in rows.now used) heads.now))) result out.old
@@ -77,29 +67,24 @@ fn write_table(
     let count = next - (2 + cells);
     let length = 7 + 2 * cells + 5 * count;
     if out.len() < length {
-        return Written::Refused(Refusal::NoRoom(used as u32));
+        return Err(Refusal::NoRoom(used as u32));
     }
     put_header(out, shape, count as u16);
     put_heads(out, heads, numbers);
     put_rows(out, 7 + 2 * cells, rows, 2 + cells, used, numbers);
-    Written::Length(length)
+    Ok(length)
 }
 
-// R54, R59: the end of building and composing: a table that found no row left is 10, with as many rows as may be used; else its
-// set is written.
+// R54, R59: the end of building and composing: the set that heads over the table are is written.
 pub fn write_finished(
     shape: Shape,
     heads: &[u16],
-    rows: &[u64],
-    table: Table,
+    table: &Table,
     numbers: &mut [u16],
     out: &mut [u8],
-) -> Written
-    requires { Finishing (shape_of shape) heads.now rows.now table (length numbers.old) }
-    ensures { Finishes (shape_of shape) heads.now rows.now table result out.old out.new }
+) -> Result<usize, Refusal>
+    requires { Finishing (shape_of shape) heads.now table.now (length numbers.old) }
+    ensures { Finishes (shape_of shape) heads.now table.now result out.old out.new }
 {
-    if table.refused {
-        return Written::Refused(Refusal::NoRoom(room_in(rows.len()) as u32));
-    }
-    write_table(shape, heads, rows, table.used, numbers, out)
+    write_table(shape, heads, table.rows(), table.used(), numbers, out)
 }

@@ -18,15 +18,16 @@ use reach::number::number_of;
 use rows::node::{Node, node_of};
 
 // R5: a two-byte number.
+#[tactic(auto, using(crate::specs::Put::put_part), unfolding(rules::specs::Lists::bytes_of))]
 fn put_word(out: &mut [u8], at: usize, n: u16)
     requires { at + 2 ≤ length out.old }
     ensures { out.new ≡ put_at out.old at (bytes_of 2 n) }
 {
-    out[at] = (n % 256) as u8;
-    out[at + 1] = (n / 256 % 256) as u8;
+    out[at..at + 2].copy_from_slice(&n.to_le_bytes());
 }
 
 // R7: the header of a set of so many operation rows.
+#[tactic(auto, unfolding(crate::specs::Put::put_at, rules::specs::Lists::bytes_of, rules::specs::Shape::write_header))]
 pub fn put_header(out: &mut [u8], shape: Shape, count: u16)
     requires { (7 ≤ length out.old) × (shape.depth < 256) }
     ensures { out.new ≡ put_at out.old 0 (write_header old 2 (shape_of shape) count) }
@@ -40,32 +41,31 @@ pub fn put_header(out: &mut [u8], shape: Shape, count: u16)
 }
 
 // R32, R41: the heads of the set that changes nothing.
+#[tactic(auto, using(crate::specs::Put::words_none, crate::specs::Put::own_next, crate::specs::Put::own_all))]
 pub fn put_own_heads(out: &mut [u8], cells: usize)
     requires { (7 + 2 * cells ≤ length out.old) × (cells < 65534) }
     ensures { out.new ≡ put_at out.old 7 (flat_map (bytes_of 2) (unchanging cells)) }
 {
-    let mut i = 0;
-    while i < cells {
+    for i in 0..cells {
         put_word(out, 7 + 2 * i, (2 + i) as u16);
-        i += 1;
     }
 }
 
 // R36, R41: the heads, renumbered.
+#[tactic(auto, using(crate::specs::Put::words_none, crate::specs::Put::heads_next))]
 pub fn put_heads(out: &mut [u8], heads: &[u16], numbers: &[u16])
     requires { (7 + 2 * length heads.now ≤ length out.old) × ((c : ℕ) → get_or heads.now c 0 < length numbers.now) }
     ensures { out.new ≡ put_at out.old 7
         (flat_map (bytes_of 2) (new_heads numbers.now heads.now)) }
 {
-    let mut i = 0;
-    while i < heads.len() {
-        let head = number_of(numbers, Row(heads[i]));
-        put_word(out, 7 + 2 * i, head.0);
-        i += 1;
+    for (i, head) in heads.iter().enumerate() {
+        let new = number_of(numbers, Row(*head));
+        put_word(out, 7 + 2 * i, new.0);
     }
 }
 
 // R42: the five bytes of a row.
+#[tactic(auto, using(crate::specs::Put::put_five))]
 fn put_parts(out: &mut [u8], at: usize, kind: u8, left: u16, right: u16)
     requires { at + 5 ≤ length out.old }
     ensures { out.new ≡ put_at out.old at (kind ∷ (bytes_of 2 left ++ bytes_of 2 right)) }
@@ -99,6 +99,7 @@ fn put_row(out: &mut [u8], at: usize, node: Node, numbers: &[u16])
 }
 
 // R36, R42: row k, if it is kept. Answers the place after it.
+#[tactic(auto, using(crate::specs::Kept::puts_none, crate::specs::Kept::puts_one))]
 fn put_kept(out: &mut [u8], at: usize, rows: &[u64], k: usize, numbers: &[u16]) -> usize
     requires { OneFits rows.now numbers.now k at (length out.old) }
     ensures { PutsKept rows.now numbers.now k at out.old out.new result }
@@ -124,9 +125,7 @@ pub fn put_rows(
         (flat_map row_bytes (kept rows.now numbers.now leaves (used - leaves))) }
 {
     let mut to = at;
-    let mut k = leaves;
-    while k < used {
+    for k in leaves..used {
         to = put_kept(out, to, rows, k, numbers);
-        k += 1;
     }
 }

@@ -1,6 +1,5 @@
 use Rattle.build.specs.Answer.{rows_short, numbers_short, heads_short}
-use Rattle.turn.specs.Slots.{slot-most}
-use Rattle.program.specs.Standing.{header-there, standing, most-cells}
+use Rattle.program.specs.Standing.{header-there, standing}
 use native.Mathlib.Omega.{arith}
 use Rattle.build.proofs.build_accepted.Goals as goal
 
@@ -19,11 +18,6 @@ pub returns-then-numbers-room_in : goal.returns-then-numbers-room_in
 returns-then-numbers-room_in c =
     let s = standing _ c.requires c.shape_at-shape.result c.shape_at-shape.ensures _ c.word-n.ensures.0 in
     numbers_short _ _ _ _ _ _ _ s (omega (arith, c.if-rows-cells.false, c.cells-cells.ensures)) (omega (arith, c.if-numbers-room_in.true, c.room_in.ensures))
-
-pub overflow_mul-n : goal.overflow_mul-n
-overflow_mul-n c =
-    let s = standing _ c.requires c.shape_at-shape.result c.shape_at-shape.ensures _ c.word-n.ensures.0 in
-    omega (arith, slot-most c.word-n.result c.cells-cells.result s.most (omega (arith, most-cells _ _ _ _ s, c.cells-cells.ensures)))
 
 pub returns-then-heads-n : goal.returns-then-heads-n
 returns-then-heads-n c =

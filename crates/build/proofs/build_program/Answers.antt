@@ -1,35 +1,41 @@
-use Rattle.build.specs.Answer.{building_start, finishing, finished, heads-there}
+use Rattle.base.specs.Answers.{passed}
+use Rattle.build.specs.Answer.{building_start, leaves-over, turns-over, finishing, finished}
 use Rattle.program.specs.Standing.{most-cells}
-use lib.Seq.{length-take-le}
+use lib.ListN.{length}
 use native.Mathlib.Omega.{arith}
-use mathlib.Core.Path.{refl, sym, ◌∙◌}
+use mathlib.Core.Path.{ap, ◌∙◌}
 use Rattle.build.proofs.build_program.Goals as goal
 
-pub put_leaves-start-requires : goal.put_leaves-start-requires
-put_leaves-start-requires c =
-    let p = c.requires in
-    (omega (arith, p.rows_lent, c.cells-cells.ensures), omega (arith, most-cells _ _ _ _ p.standing, c.cells-cells.ensures))
+pub put_leaves-requires : goal.put_leaves-requires
+put_leaves-requires c = (omega (arith, most-cells _ _ _ _ c.requires.standing, c.cells-cells.ensures), c.empty-table.ensures.empty.1)
 
-pub build_turns-table-requires : goal.build_turns-table-requires
-build_turns-table-requires c =
+pub returns-in_err-put_leaves : goal.returns-in_err-put_leaves
+returns-in_err-put_leaves c =
+    rw (passed c.from_residual.ensures.1)
+    (leaves-over _ _ _ _ _ _ c.requires (ap length c.empty-table.ensures.empty.0) _ _ c.cells-cells.ensures c.in_err-put_leaves.ensures.holds)
+
+pub build_turns-requires : goal.build_turns-requires
+build_turns-requires c =
+    let leaves = c.in_ok-put_leaves.ensures in
     record {
-      building = building_start _ _ _ _ _ _ c.requires _ _ refl _ c.cells-cells.ensures _ c.put_leaves-start.ensures;
-      rows_in_bounds = rw c.put_leaves-start.auto.rows c.requires.numbers_lent;
+      building = building_start _ _ _ _ _ _ c.requires _ c.cells-cells.ensures _ leaves.holds;
+      rows_in_bounds = rw (leaves.kept.size ∙ ap length c.empty-table.ensures.empty.0) c.requires.numbers_lent;
     }
 
-pub slice_bounds-write_finished-end : goal.slice_bounds-write_finished-end
-slice_bounds-write_finished-end c = heads-there _ _ _ _ _ _ c.build_turns-table.ensures _ c.cells-cells.ensures
-
-pub slice_bounds-write_finished-end-2 : goal.slice_bounds-write_finished-end-2
-slice_bounds-write_finished-end-2 c =
-    sym (length-take-le c.cells-cells.result _ (heads-there _ _ _ _ _ _ c.build_turns-table.ensures _ c.cells-cells.ensures))
+pub returns-in_err-build_turns : goal.returns-in_err-build_turns
+returns-in_err-build_turns c =
+    let size = c.in_ok-put_leaves.ensures.kept.size ∙ ap length c.empty-table.ensures.empty.0 in
+    rw (passed c.from_residual-in_err-build_turns.ensures.1)
+    (turns-over _ _ _ _ _ _ c.requires size _ c.in_err-build_turns.ensures.builds)
 
 pub write_finished-requires : goal.write_finished-requires
 write_finished-requires c =
-    let rows = c.build_turns-table.auto.rows ∙ c.put_leaves-start.auto.rows in
-    finishing _ _ _ _ _ _ c.build_turns-table.ensures _ c.cells-cells.ensures _ (rw (rows, c.build_turns-table.auto.numbers) c.requires.numbers_lent)
+    let turns = c.in_ok-build_turns.ensures in
+    let size = turns.kept.size ∙ c.in_ok-put_leaves.ensures.kept.size ∙ ap length c.empty-table.ensures.empty.0 in
+    finishing _ _ _ _ _ turns.builds _ c.cells-cells.ensures _ (rw (size, c.build_turns.auto.numbers) c.requires.numbers_lent)
 
 pub returns : goal.returns
 returns c =
-    let rows = c.build_turns-table.auto.rows ∙ c.put_leaves-start.auto.rows in
-    finished _ _ _ _ _ _ c.build_turns-table.ensures _ c.cells-cells.ensures _ _ _ rows c.requires _ _ _ c.write_finished.ensures
+    let turns = c.in_ok-build_turns.ensures in
+    let size = turns.kept.size ∙ c.in_ok-put_leaves.ensures.kept.size ∙ ap length c.empty-table.ensures.empty.0 in
+    finished _ _ _ _ _ turns.builds _ c.cells-cells.ensures _ _ _ size c.requires _ _ _ c.write_finished.ensures

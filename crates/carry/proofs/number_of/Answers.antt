@@ -7,22 +7,10 @@ use Rattle.carry.proofs.number_of.Goals as goal
 pub returns-then-at-lt2 : goal.returns-then-at-lt2
 returns-then-at-lt2 c = number_constant _ _ _ _ c.if-at-lt2.true
 
-pub head_in-requires : goal.head_in-requires
-head_in-requires c = c.requires.head c.if-at-lt2.false (omega (arith, c.cells-leaves.ensures, c.if-at-leaves.true))
-
 pub returns-then-at-leaves : goal.returns-then-at-leaves
 returns-then-at-leaves c =
     c.head_in.ensures ∙ number-head _ _ _ _ c.if-at-lt2.false
     (omega (arith, c.cells-leaves.ensures, c.if-at-leaves.true))
-
-pub bounds-numbers-at : goal.bounds-numbers-at
-bounds-numbers-at c =
-    omega (
-      arith,
-      c.cells-leaves.ensures,
-      c.requires.noted
-          (omega (arith, c.cells-leaves.ensures, c.if-at-leaves.false)),
-    )
 
 pub returns : goal.returns
 returns c = noted-at _ _ _ _ _ c.cells-leaves.ensures c.if-at-lt2.false c.if-at-leaves.false

@@ -1,33 +1,40 @@
 -- `four_rows` meets its contract.
-use Rattle.rows.specs.Making.{add-still, open_before}
-use Rattle.choice.specs.ChoiceLaws.{not-addable, and-addable, other_addable, halves_addable, four_picks}
+use Rattle.base.specs.Answers.{passed}
+use Rattle.rows.specs.Stored.{kept_trans}
+use Rattle.choice.specs.ChoiceLaws.{over_n, and-addable, over_a, other_addable, over_b, halves_addable, four_gives}
 use Rattle.choice.proofs.four_rows.Goals as goal
 
-pub add-n-requires : goal.add-n-requires
-add-n-requires c e = not-addable _ c.args.x c.args.y (c.requires e).among e
+pub returns-in_err-not_f-clause-picks : goal.returns-in_err-not_f-clause-picks
+returns-in_err-not_f-clause-picks c =
+    rw (passed c.from_residual.ensures.1)
+    (record { gives = λ C t g. over_n _ _ _ g _ c.in_err-not_f.ensures.adds })
 
-pub add-a-requires : goal.add-a-requires
-add-a-requires c e =
-    let an = c.add-n.ensures in
-    let e1 = open_before (add-still an) e in
-    and-addable _ _ c.args.y (c.requires e1).among an c.add-n.auto.rows e
+pub add-requires-2 : goal.add-requires-2
+add-requires-2 c = and-addable _ _ c.args.y c.requires.among c.in_ok-not_f.ensures.adds
 
-pub add-b-requires : goal.add-b-requires
-add-b-requires c e =
-    let an = c.add-n.ensures in
-    let aa = c.add-a.ensures in
-    let e1 = open_before (add-still an) (open_before (add-still aa) e) in
-    other_addable _ _ _ (c.requires e1).among an c.add-n.auto.rows aa c.add-a.auto.rows e
+pub returns-in_err-left-clause-picks : goal.returns-in_err-left-clause-picks
+returns-in_err-left-clause-picks c =
+    let n = c.in_ok-not_f.ensures in
+    rw (passed c.from_residual-in_err-left.ensures.1)
+    (record { gives = λ C t g. over_a _ _ c.args.y g n.adds _ n.kept c.in_err-left.ensures.adds })
 
-pub add-requires : goal.add-requires
-add-requires c e =
-    let an = c.add-n.ensures in
-    let aa = c.add-a.ensures in
-    let ab = c.add-b.ensures in
-    let e1 = open_before (add-still an) (open_before (add-still aa) (open_before (add-still ab) e)) in
-    halves_addable _ _ _ (c.requires e1).among an c.add-n.auto.rows aa c.add-a.auto.rows ab c.add-b.auto.rows e
+pub add-requires-3 : goal.add-requires-3
+add-requires-3 c = other_addable _ _ _ c.requires.among c.in_ok-not_f.ensures.adds c.in_ok-left.ensures.adds
 
-pub returns : goal.returns
-returns c =
-    four_picks _ _ _ c.add-n.ensures c.add-n.auto.rows c.add-a.ensures c.add-a.auto.rows c.add-b.ensures
-    c.add-b.auto.rows c.add.ensures c.add.auto.rows
+pub returns-in_err-right-clause-picks : goal.returns-in_err-right-clause-picks
+returns-in_err-right-clause-picks c =
+    let n = c.in_ok-not_f.ensures in
+    let a = c.in_ok-left.ensures in
+    rw (passed c.from_residual-in_err-right.ensures.1)
+    (record { gives = λ C t g. over_b _ _ _ g n.adds a.adds _ (kept_trans n.kept a.kept) c.in_err-right.ensures.adds })
+
+pub add-requires-4 : goal.add-requires-4
+add-requires-4 c =
+    halves_addable _ _ _ c.requires.among c.in_ok-not_f.ensures.adds c.in_ok-left.ensures.adds c.in_ok-right.ensures.adds
+
+pub returns-clause-picks : goal.returns-clause-picks
+returns-clause-picks c =
+    let n = c.in_ok-not_f.ensures in
+    let a = c.in_ok-left.ensures in
+    let b = c.in_ok-right.ensures in
+    record { gives = λ C t g. four_gives _ _ _ g n.adds a.adds b.adds _ _ (kept_trans (kept_trans n.kept a.kept) b.kept) c.add-4.ensures.adds }

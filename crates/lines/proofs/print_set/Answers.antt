@@ -1,25 +1,32 @@
 use mathlib.Core.Path.{ap, sym, ◌∙◌}
-use Rattle.program.specs.Stages.{checked_verdict}
+use Rattle.base.specs.Answers.{verdict_of}
 use Rattle.sets.specs.Answer.{set-accepted}
+use Rattle.text.specs.Puts.{ends}
 use Rattle.lines.specs.Room.{set-fits, refusal_fits}
-use Rattle.lines.specs.Answer.{set_prints, unread_prints}
+use Rattle.lines.specs.Answer.{taken_text, unread_text}
 use Rattle.lines.proofs.print_set.Goals as goal
 
 pub put_set-requires : goal.put_set-requires
 put_set-requires c =
-    let a = set-accepted _ _ c.check_set.ensures c.in-Granted.is in
+    let a = set-accepted _ _ c.check_set.ensures c.in-Ok.is in
     record {
       taken = a;
-      fits = set-fits _ a c.requires.0 c.requires.1;
+      fits = set-fits _ a c.requires.0 _ c.requires.1;
     }
 
 pub put_refusal-requires : goal.put_refusal-requires
-put_refusal-requires c = refusal_fits _ _ c.requires.1
+put_refusal-requires c = refusal_fits _ _ _ c.requires.1
 
-pub returns-in-Granted : goal.returns-in-Granted
-returns-in-Granted c =
-    set_prints _ c.requires.1 (set-accepted _ _ c.check_set.ensures c.in-Granted.is) c.requires.0 c.put_set.ensures
+pub returns-in-Ok : goal.returns-in-Ok
+returns-in-Ok c =
+    let a = set-accepted _ _ c.check_set.ensures c.in-Ok.is in
+    record {
+      text_after = rw (taken_text _ a) c.put_set.ensures;
+      upper_bound = ends _ _ _ c.put_set.ensures (set-fits _ a c.requires.0 _ c.requires.1);
+    }
 
-pub returns-in-Refused : goal.returns-in-Refused
-returns-in-Refused c =
-    unread_prints _ c.requires.1 c.in-Refused.x (ap checked_verdict (sym c.in-Refused.is) ∙ c.check_set.ensures) c.put_refusal.ensures
+pub returns-in-Err : goal.returns-in-Err
+returns-in-Err c = record {
+  text_after = rw (unread_text _ c.in-Err.x (ap verdict_of (sym c.in-Err.is) ∙ c.check_set.ensures)) c.put_refusal.ensures;
+  upper_bound = ends _ _ _ c.put_refusal.ensures (refusal_fits _ _ _ c.requires.1);
+}

@@ -1,26 +1,18 @@
 -- `follow` meets its contract: a law for each end.
-use mathlib.Core.Path.{◌∙◌}
-use Rattle.base.specs.Answers.{shape_of}
-use Rattle.rewrite.specs.FollowLaws.{follow_idle, follow_tabled, follow_start, follow_over, follow_moving, follow_done}
+use Rattle.base.specs.Answers.{passed}
+use Rattle.rewrite.specs.FollowLaws.{follow_start, follow_over, follow_done}
 use Rattle.rewrite.proofs.follow.Goals as goal
 
-pub returns-then-table : goal.returns-then-table
-returns-then-table c = follow_idle (shape_of c.args.shape) c.args.y.now c.args.rows.now c.args.table c.args.made.now c.if-table.true
+pub carry_rows-requires : goal.carry_rows-requires
+carry_rows-requires c = follow_start c.requires _ (rw (c.rows.ensures, c.used.ensures) at c.mark_reached.ensures)
 
-pub mark_reached-requires : goal.mark_reached-requires
-mark_reached-requires c = follow_tabled _ _ _ _ _ c.if-table.false _ c.requires
+pub returns-in_err-carry_rows-clause-follows : goal.returns-in_err-carry_rows-clause-follows
+returns-in_err-carry_rows-clause-follows c =
+    rw (passed c.from_residual.ensures.1)
+    (λ w.
+    let marks = rw (c.rows.ensures, c.used.ensures) at c.mark_reached.ensures in
+    follow_over w _ marks (c.in_err-carry_rows.ensures.carries (follow_start w _ marks)))
 
-pub carry_rows-after-requires : goal.carry_rows-after-requires
-carry_rows-after-requires c = follow_start _ _ _ _ _ c.if-table.false _ c.mark_reached.ensures _ c.requires
-
-pub returns-then-after : goal.returns-then-after
-returns-then-after c =
-    follow_over (shape_of c.args.shape) c.args.y.now c.args.rows.now c.args.table c.args.made.now c.if-table.false _ c.mark_reached.ensures _ _ _ c.carry_rows-after.ensures c.if-after.true
-
-pub move_heads-requires : goal.move_heads-requires
-move_heads-requires c =
-    follow_moving _ _ _ _ _ c.if-table.false _ c.requires _ (c.carry_rows-after.auto.numbers ∙ c.mark_reached.auto.numbers)
-
-pub returns : goal.returns
-returns c =
-    follow_done (shape_of c.args.shape) c.args.y.now c.args.rows.now c.args.table c.args.made.now c.if-table.false _ c.mark_reached.ensures _ _ _ c.carry_rows-after.ensures _ c.move_heads.ensures
+pub returns-clause-follows : goal.returns-clause-follows
+returns-clause-follows c w =
+    follow_done w _ (rw (c.rows.ensures, c.used.ensures) at c.mark_reached.ensures) c.in_ok-carry_rows.ensures.carries _ c.move_heads.ensures

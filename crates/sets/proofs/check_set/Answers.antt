@@ -1,3 +1,5 @@
+use Rattle.std.proofs.Common.{ap, ◌∙◌}
+use Rattle.base.specs.Answers.{passed, verdict_of}
 use Rattle.sets.specs.Answer.{set-header, set_long, set_rest}
 use Rattle.sets.proofs.check_set.Goals as goal
 
@@ -5,17 +7,16 @@ pub check_rest-requires : goal.check_rest-requires
 check_rest-requires c =
     let h = c.read_header in
     set_long c.args.file.now h.result h.ensures
-    c.in-With.shape c.in-With.is
+    c.in_ok-shape.shape c.in_ok-shape.was
 
-pub returns-in-With : goal.returns-in-With
-returns-in-With c =
+pub returns : goal.returns
+returns c =
     let h = c.read_header in
     set_rest c.args.file.now h.result h.ensures
-    c.in-With.shape c.in-With.is
+    c.in_ok-shape.shape c.in_ok-shape.was
     c.check_rest.result c.check_rest.ensures
 
-pub returns-in-Refused : goal.returns-in-Refused
-returns-in-Refused c =
+pub returns-in_err-shape : goal.returns-in_err-shape
+returns-in_err-shape c =
     let h = c.read_header in
-    set-header c.args.file.now h.result h.ensures
-    c.in-Refused.x c.in-Refused.is
+    ap verdict_of (passed c.from_residual.ensures.1) ∙ set-header c.args.file.now h.result h.ensures _ c.in_err-shape.was

@@ -4,12 +4,4 @@ use Rattle.harness.specs.Fields.{number_four}
 use Rattle.harness.proofs.read.number_of.Goals as goal
 
 pub returns : goal.returns
-returns c =
-    omega (
-      arith,
-      number_four c.args.b.now,
-      c.wide.ensures.0,
-      c.wide-2.ensures.0,
-      c.wide-3.ensures.0,
-      c.wide-4.ensures.0,
-    )
+returns c = omega (arith, number_four c.args.b, c.from_le_bytes.ensures)

@@ -5,17 +5,17 @@ use Prim.Native.Nat.{◌<◌}
 use lib.ListN.{get_or}
 use Rattle.instruction.proofs.eval.+value_at.Goals as goal
 
-pub bounds-s-wide : goal.bounds-s-wide
-bounds-s-wide t c =
+pub bounds-s-b : goal.bounds-s-b
+bounds-s-b t c =
     (let h = read_variable _ _ _ _ c.requires.legible (rw c.read_at-b.ensures at c.if-b-lt250.true) in omega
-    (arith, h, c.requires.enough, c.wide.ensures.0, c.read_at-b.ensures))
+    (arith, h, c.requires.enough, c.read_at-b.ensures))
 
 pub overflow_add-result : goal.overflow_add-result
 overflow_add-result t c = omega (arith, read-inside _ _ _ _ c.requires.legible)
 
 pub returns-then-b-lt250 : goal.returns-then-b-lt250
 returns-then-b-lt250 t c =
-    rw (c.wide.ensures.0, c.read_at-b.ensures)
+    rw (c.read_at-b.ensures)
     (value_variable _ _ _ _ _ c.requires (rw c.read_at-b.ensures at c.if-b-lt250.true))
 
 pub overflow_add-result-then-b-lt252 : goal.overflow_add-result-then-b-lt252

@@ -1,59 +1,48 @@
 -- `row_variable` meets its contract.
-use Rattle.own.specs.Mains.{row-store, pair-addable, row-set, opposite_addable, variable_addable, rise_addable, row_rise, fall_addable, row_fall, falls}
-use native.Mathlib.Omega.{arith}
+use Rattle.base.specs.Answers.{passed}
+use Rattle.own.specs.Mains.{row-store, row-set, rise_full, rise_addable, row_rise, fall_full, fall_addable, row_fall}
 use Rattle.own.proofs.mains.row_variable.Goals as goal
 
-pub flag-requires : goal.flag-requires
-flag-requires c = omega (arith, c.requires.given.inside.most)
+pub returns-in-Store-clause-made : goal.returns-in-Store-clause-made
+returns-in-Store-clause-made c =
+    rw c.in-Store.is
+    (row-store c.requires.given _ c.flag.ensures _ c.of_cell-x.ensures c.args.b.0 c.requires.variable _ c.of_cell-y.ensures)
 
-pub of_cell-x-requires : goal.of_cell-x-requires
-of_cell-x-requires c = omega (arith, c.requires.given.inside.most, c.flag.ensures)
+pub returns-in-Set-clause-made : goal.returns-in-Set-clause-made
+returns-in-Set-clause-made c =
+    rw c.in-Set.is
+    (row-set c.requires.given _ c.flag.ensures _ c.of_cell-x.ensures c.args.b.0 c.requires.variable _ c.of_cell-y.ensures _ _
+    c.add.ensures.adds)
 
-pub of_cell-y-requires : goal.of_cell-y-requires
-of_cell-y-requires c = omega (arith, c.requires.given.inside.most, c.requires.le_code.2)
+pub returns-in_err-not-in-Res-clause-made : goal.returns-in_err-not-in-Res-clause-made
+returns-in_err-not-in-Res-clause-made c =
+    rw (passed c.from_residual.ensures.1)
+    (fall_full c.requires.given _ c.flag.ensures _ c.of_cell-x.ensures c.args.b.0 c.requires.variable _ c.of_cell-y.ensures _
+    c.in-Res.is _ _ c.in_err-not-in-Res.ensures.adds)
 
-pub returns-then-code-eq32 : goal.returns-then-code-eq32
-returns-then-code-eq32 c =
-    row-store _ c.requires.given c.args.code _ c.flag.ensures _ c.of_cell-x.ensures c.args.b.0
-    c.requires.le_code.2 _ c.of_cell-y.ensures c.if-code-eq32.true
+pub add-requires-in-Res-2 : goal.add-requires-in-Res-2
+add-requires-in-Res-2 c =
+    fall_addable c.requires.given _ c.flag.ensures _ c.of_cell-x.ensures c.args.b.0 c.requires.variable _ c.of_cell-y.ensures _
+    c.in-Res.is c.in_ok-not-in-Res.ensures.adds _
 
-pub add-requires : goal.add-requires
-add-requires c =
-    pair-addable _ c.requires.given c.args.code _ c.flag.ensures _ c.of_cell-x.ensures c.args.b.0 c.requires.le_code.2 _
-    c.of_cell-y.ensures _
+pub returns-in_ok-not-in-Res-clause-made : goal.returns-in_ok-not-in-Res-clause-made
+returns-in_ok-not-in-Res-clause-made c =
+    row_fall c.requires.given _ c.flag.ensures _ c.of_cell-x.ensures c.args.b.0 c.requires.variable _ c.of_cell-y.ensures _
+    c.in-Res.is c.in_ok-not-in-Res.ensures.adds c.in_ok-not-in-Res.ensures.kept _ _ c.add-in-Res-2.ensures.adds
 
-pub returns-then-code-eq33 : goal.returns-then-code-eq33
-returns-then-code-eq33 c =
-    row-set _ c.requires.given c.args.code _ c.flag.ensures _ c.of_cell-x.ensures c.args.b.0 c.requires.le_code.2 _
-    c.of_cell-y.ensures c.if-code-eq33.true _ _ c.add.ensures c.add.auto.rows
+pub returns-in_err-not-in-Redge-clause-made : goal.returns-in_err-not-in-Redge-clause-made
+returns-in_err-not-in-Redge-clause-made c =
+    rw (passed c.from_residual-in_err-not-in-Redge.ensures.1, c.in-Redge.is)
+    (rise_full c.requires.given _ c.flag.ensures _ c.of_cell-x.ensures c.args.b.0 c.requires.variable _ c.of_cell-y.ensures _ _
+    c.in_err-not-in-Redge.ensures.adds)
 
-pub add-added-requires : goal.add-added-requires
-add-added-requires c =
-    variable_addable _ c.requires.given c.args.code _ c.flag.ensures _ c.of_cell-x.ensures c.args.b.0 c.requires.le_code.2
-    _ c.of_cell-y.ensures
+pub add-requires-in-Redge-2 : goal.add-requires-in-Redge-2
+add-requires-in-Redge-2 c =
+    rise_addable c.requires.given _ c.flag.ensures _ c.of_cell-x.ensures c.args.b.0 c.requires.variable _ c.of_cell-y.ensures
+    c.in_ok-not-in-Redge.ensures.adds _
 
-pub add-requires-then-code-eq35 : goal.add-requires-then-code-eq35
-add-requires-then-code-eq35 c =
-    rise_addable _ c.requires.given c.args.code _ c.flag.ensures _ c.of_cell-x.ensures c.args.b.0 c.requires.le_code.2 _
-    c.of_cell-y.ensures _ _ c.add-added.ensures c.add-added.auto.rows _
-
-pub returns-then-code-eq35 : goal.returns-then-code-eq35
-returns-then-code-eq35 c =
-    row_rise _ c.requires.given c.args.code _ c.flag.ensures _ c.of_cell-x.ensures c.args.b.0 c.requires.le_code.2 _
-    c.of_cell-y.ensures _ _ c.add-added.ensures c.add-added.auto.rows c.if-code-eq35.true _ _
-    c.add-then-code-eq35.ensures c.add-then-code-eq35.auto.rows
-
-pub add-added-requires-2 : goal.add-added-requires-2
-add-added-requires-2 c = opposite_addable _ c.requires.given c.args.code _ c.flag.ensures _ c.of_cell-x.ensures
-
-pub add-requires-2 : goal.add-requires-2
-add-requires-2 c =
-    fall_addable _ c.requires.given c.args.code _ c.flag.ensures _ c.of_cell-x.ensures c.args.b.0 c.requires.le_code.2 _
-    c.of_cell-y.ensures _ _ c.add-added-2.ensures c.add-added-2.auto.rows _
-
-pub returns : goal.returns
-returns c =
-    row_fall _ c.requires.given c.args.code _ c.flag.ensures _ c.of_cell-x.ensures c.args.b.0 c.requires.le_code.2 _
-    c.of_cell-y.ensures _ _ c.add-added-2.ensures c.add-added-2.auto.rows
-    (falls _ c.if-code-eq32.false c.if-code-eq33.false c.if-code-eq35.false c.requires.le_code.0 c.requires.le_code.1) _ _
-    c.add-2.ensures c.add-2.auto.rows
+pub returns-in_ok-not-in-Redge-clause-made : goal.returns-in_ok-not-in-Redge-clause-made
+returns-in_ok-not-in-Redge-clause-made c =
+    rw c.in-Redge.is
+    (row_rise c.requires.given _ c.flag.ensures _ c.of_cell-x.ensures c.args.b.0 c.requires.variable _ c.of_cell-y.ensures
+    c.in_ok-not-in-Redge.ensures.adds c.in_ok-not-in-Redge.ensures.kept _ _ c.add-in-Redge-2.ensures.adds)

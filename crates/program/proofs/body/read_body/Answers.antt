@@ -1,5 +1,5 @@
 -- `read_body` meets its contract: where a body ends is known from its parts.
-use mathlib.Core.Path.{sym, ◌∙◌}
+use mathlib.Core.Path.{refl, sym, ◌∙◌}
 use native.Mathlib.Omega.{arith}
 use Rattle.base.specs.Answers.{shape_of}
 use Rattle.reader.specs.Bodies.{body_matches}
@@ -14,7 +14,7 @@ check_label-requires c = ((body_matches _ _ _ (sym c.in-Label.is ∙ c.decode.en
 
 pub returns-in-Alone : goal.returns-in-Alone
 returns-in-Alone c =
-    let a = c.args in found a.file.now (shape_of a.shape) a.n a.i.0 a.at _ (sym c.in-Alone.is ∙ c.decode.ensures) c.check_alone.ensures
+    let a = c.args in found a.file.now (shape_of a.shape) a.n a.i.0 a.at _ (sym c.in-Alone.is ∙ c.decode.ensures) refl
 
 pub returns-in-Value : goal.returns-in-Value
 returns-in-Value c =
@@ -31,3 +31,7 @@ returns-in-Variable c =
 pub returns-in-Label : goal.returns-in-Label
 returns-in-Label c =
     let a = c.args in found a.file.now (shape_of a.shape) a.n a.i.0 a.at _ (sym c.in-Label.is ∙ c.decode.ensures) c.check_label.ensures
+
+pub returns-in-Unknown : goal.returns-in-Unknown
+returns-in-Unknown c =
+    let a = c.args in found a.file.now (shape_of a.shape) a.n a.i.0 a.at _ (sym c.in-Unknown.is ∙ c.decode.ensures) refl

@@ -1,73 +1,72 @@
--- `announce` meets its contract: its tests are those of `announced`, in the same order.
+-- `announce` meets its contract: a byte is one of those that `announced` tests for, or none of them.
+use native.Mathlib.Omega.{arith}
+use native.Mathlib.Decide.{dec_lt}
 use borrow.Author.Tests.{lt-ltb, le-ltb, eq-eqb, ne_eqb}
-use Rattle.rules.specs.Expr.{announced}
+use Rattle.std.proofs.Common.{◌≡◌, ℕ, ◌<◌, ◌≤◌}
+use Rattle.rules.specs.Expr.{announced, bad}
 use Rattle.program.proofs.expr.announce.Goals as goal
 
 pub returns-then-b-vars : goal.returns-then-b-vars
 unfolding announced
-returns-then-b-vars c =
-    simp (
-    lt-ltb _ _ c.if-b-vars.true
-    )
+returns-then-b-vars c = simp (lt-ltb _ _ c.if-b-vars.true)
 
-pub returns-then-b-eq250 : goal.returns-then-b-eq250
+pub returns-in-252 : goal.returns-in-252
 unfolding announced
-returns-then-b-eq250 c =
+returns-in-252 c =
+    let b = c.args.b in
     simp (
       le-ltb _ _ c.if-b-vars.false,
-      eq-eqb _ _ c.if-b-eq250.true,
+      ne_eqb b 250 (λ e. omega (arith, c.in-252.is)),
+      ne_eqb b 251 (λ e. omega (arith, c.in-252.is)),
+      eq-eqb b 252 c.in-252.is,
     )
 
-pub returns-then-b-eq251 : goal.returns-then-b-eq251
+pub returns-in-250 : goal.returns-in-250
 unfolding announced
-returns-then-b-eq251 c =
+returns-in-250 c =
+    let b = c.args.b in
+    elim (dec_lt b 251) [
+      | yes h ↦ simp (le-ltb _ _ c.if-b-vars.false, eq-eqb b 250 (omega arith))
+      | no h ↦ simp (le-ltb _ _ c.if-b-vars.false, ne_eqb b 250 (λ e. omega arith), eq-eqb b 251 (omega arith))
+    ]
+
+pub returns-in-253 : goal.returns-in-253
+unfolding announced
+returns-in-253 c =
+    let b = c.args.b in
+    elim (dec_lt b 254) [
+      | yes h ↦ simp (
+        le-ltb _ _ c.if-b-vars.false,
+        ne_eqb b 250 (λ e. omega arith),
+        ne_eqb b 251 (λ e. omega arith),
+        ne_eqb b 252 (λ e. omega arith),
+        eq-eqb b 253 (omega arith),
+      )
+      | no h ↦ simp (
+        le-ltb _ _ c.if-b-vars.false,
+        ne_eqb b 250 (λ e. omega arith),
+        ne_eqb b 251 (λ e. omega arith),
+        ne_eqb b 252 (λ e. omega arith),
+        ne_eqb b 253 (λ e. omega arith),
+        eq-eqb b 254 (omega arith),
+      )
+    ]
+
+-- No such byte.
+none : (v b : ℕ) → v ≤ b → (250 ≤ b → b < 255 → ⊥) → bad ≡ announced v b
+unfolding announced
+none v b h out =
     simp (
-      le-ltb _ _ c.if-b-vars.false,
-      ne_eqb _ _ c.if-b-eq250.false,
-      eq-eqb _ _ c.if-b-eq251.true,
+      le-ltb b v h,
+      ne_eqb b 250 (λ e. out (omega arith) (omega arith)),
+      ne_eqb b 251 (λ e. out (omega arith) (omega arith)),
+      ne_eqb b 252 (λ e. out (omega arith) (omega arith)),
+      ne_eqb b 253 (λ e. out (omega arith) (omega arith)),
+      ne_eqb b 254 (λ e. out (omega arith) (omega arith)),
     )
 
-pub returns-then-b-eq252 : goal.returns-then-b-eq252
-unfolding announced
-returns-then-b-eq252 c =
-    simp (
-      le-ltb _ _ c.if-b-vars.false,
-      ne_eqb _ _ c.if-b-eq250.false,
-      ne_eqb _ _ c.if-b-eq251.false,
-      eq-eqb _ _ c.if-b-eq252.true,
-    )
+pub returns-in_default : goal.returns-in_default
+returns-in_default c = rw (← none c.args.vars c.args.b c.if-b-vars.false (λ l h. omega arith))
 
-pub returns-then-b-eq253 : goal.returns-then-b-eq253
-unfolding announced
-returns-then-b-eq253 c =
-    simp (
-      le-ltb _ _ c.if-b-vars.false,
-      ne_eqb _ _ c.if-b-eq250.false,
-      ne_eqb _ _ c.if-b-eq251.false,
-      ne_eqb _ _ c.if-b-eq252.false,
-      eq-eqb _ _ c.if-b-eq253.true,
-    )
-
-pub returns-then-b-eq254 : goal.returns-then-b-eq254
-unfolding announced
-returns-then-b-eq254 c =
-    simp (
-      le-ltb _ _ c.if-b-vars.false,
-      ne_eqb _ _ c.if-b-eq250.false,
-      ne_eqb _ _ c.if-b-eq251.false,
-      ne_eqb _ _ c.if-b-eq252.false,
-      ne_eqb _ _ c.if-b-eq253.false,
-      eq-eqb _ _ c.if-b-eq254.true,
-    )
-
-pub returns-else-b-eq254 : goal.returns-else-b-eq254
-unfolding announced
-returns-else-b-eq254 c =
-    simp (
-      le-ltb _ _ c.if-b-vars.false,
-      ne_eqb _ _ c.if-b-eq250.false,
-      ne_eqb _ _ c.if-b-eq251.false,
-      ne_eqb _ _ c.if-b-eq252.false,
-      ne_eqb _ _ c.if-b-eq253.false,
-      ne_eqb _ _ c.if-b-eq254.false,
-    )
+pub returns-in_default-2 : goal.returns-in_default-2
+returns-in_default-2 c = rw (← none c.args.vars c.args.b c.if-b-vars.false (λ l h. omega arith))

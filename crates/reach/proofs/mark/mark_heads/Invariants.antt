@@ -1,9 +1,7 @@
--- `writer::reach::mark_heads`: each turn marks one head, the last first.
-use Rattle.reach.specs.Marks.{Heading}
+-- `reach::mark::mark_heads`: each turn marks one head.
+use Rattle.std.proofs.Common.{◌≡◌, take}
+use Rattle.reach.specs.Marks.{mark_all}
 use Rattle.reach.proofs.mark.mark_heads.Given as goal
 
-abbrev pub invariant-loop-i : goal.invariant-loop-i
-invariant-loop-i l = Heading l.heads l.initial.numbers l.numbers l.i
-
-abbrev pub decreases-loop-i : goal.decreases-loop-i
-decreases-loop-i l = l.i
+abbrev pub invariant-loop-head : goal.invariant-loop-head
+invariant-loop-head l = l.numbers ≡ mark_all (take l.head-index l.heads) l.initial.numbers

@@ -6,7 +6,6 @@ use Rattle.reader.proofs.body.word_in.Goals as goal
 pub returns : goal.returns
 returns c =
     let a = c.args in (
-      omega
-          (arith, number-two a.file.now a.at, c.wide.ensures.0, c.read_at.ensures, c.wide-2.ensures.0, c.read_at-2.ensures),
-      omega (arith, c.wide.ensures.1, c.wide-2.ensures.1),
+      omega (arith, number-two a.file.now a.at, c.read_at.ensures, c.read_at-2.ensures),
+      omega arith,
     )

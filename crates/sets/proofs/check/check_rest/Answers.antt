@@ -25,12 +25,14 @@ returns-then-end-file c =
     (omega (arith, c.cells.ensures, c.if-cells-rows-gt65535.false)) _
     c.row_place-end.ensures (omega arith) (omega arith)
 
-pub check_rows-requires : goal.check_rows-requires
-check_rows-requires c =
+pub invariant_of-check_rows : goal.invariant_of-check_rows
+invariant_of-check_rows c =
     let a = c.args in
-    rest-whole a.file.now (shape_of a.shape) _ c.word-rows.ensures.0
-    (omega (arith, c.cells.ensures, c.if-cells-rows-gt65535.false)) _
-    c.row_place-end.ensures (omega arith) (omega arith)
+    record {
+      whole = rest-whole a.file.now (shape_of a.shape) _ c.word-rows.ensures.0
+          (omega (arith, c.cells.ensures, c.if-cells-rows-gt65535.false)) _
+          c.row_place-end.ensures (omega arith) (omega arith);
+    }
 
 pub returns : goal.returns
 returns c =

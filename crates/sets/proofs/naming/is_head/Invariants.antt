@@ -1,13 +1,8 @@
-use Prim.Native.Nat.{◌-◌}
 use lib.Dec.{eqb}
-use Rattle.rules.specs.SetFile.{head_at}
-use Rattle.rules.specs.Edition.{old}
-use Rattle.rules.specs.Lists.{number_at}
+use lib.ListN.{get_or}
 use Rattle.laws.specs.Lists.{Searching}
+use Rattle.sets.specs.Judging.{spells}
 use Rattle.sets.proofs.naming.is_head.Given as goal
 
 abbrev pub invariant-loop-c : goal.invariant-loop-c
-invariant-loop-c l = Searching (λ c'. eqb l.k.0 (number_at 2 l.file (head_at old c'))) l.initial.c l.c
-
-abbrev pub decreases-loop-c : goal.decreases-loop-c
-decreases-loop-c l = l.cells - l.c
+invariant-loop-c l = Searching (λ c'. eqb l.k.0 (get_or (spells l.set).heads c' 0)) l.initial.c l.c

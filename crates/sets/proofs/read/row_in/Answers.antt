@@ -7,10 +7,6 @@ use Rattle.sets.proofs.read.row_in.Goals as goal
 pub returns-then-at-leaves : goal.returns-then-at-leaves
 returns-then-at-leaves c = row-leaf _ (shape_of c.args.shape) _ (omega (arith, c.cells-leaves.ensures, c.if-at-leaves.true))
 
-pub node_in-requires : goal.node_in-requires
-node_in-requires c =
-    omega (arith, c.row_place.ensures, c.cells-leaves.ensures, c.requires (omega (arith, c.cells-leaves.ensures, c.if-at-leaves.false)))
-
 pub returns : goal.returns
 returns c =
     let e = c.cells-leaves.ensures in

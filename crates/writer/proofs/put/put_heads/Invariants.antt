@@ -1,11 +1,9 @@
 -- `writer::put::put_heads`: each turn writes one head.
-use lib.ListN.{length}
-use Prim.Native.Nat.{◌-◌}
-use Rattle.writer.specs.Put.{Words, new_heads}
+use Rattle.std.proofs.Common.{◌≡◌, take}
+use mathlib.Core.List.{flat_map}
+use Rattle.rules.specs.Lists.{bytes_of}
+use Rattle.writer.specs.Put.{put_at, new_heads}
 use Rattle.writer.proofs.put.put_heads.Given as goal
 
 abbrev pub invariant-loop-i : goal.invariant-loop-i
-invariant-loop-i l = Words l.initial.out 7 (new_heads l.numbers l.heads) l.out l.i
-
-abbrev pub decreases-loop-i : goal.decreases-loop-i
-decreases-loop-i l = length l.heads - l.i
+invariant-loop-i l = l.out ≡ put_at l.initial.out 7 (flat_map (bytes_of 2) (take l.i (new_heads l.numbers l.heads)))

@@ -1,11 +1,10 @@
 -- `writer::put::put_own_heads`: each turn writes one head.
+use Rattle.std.proofs.Common.{◌≡◌, take}
+use mathlib.Core.List.{flat_map}
+use Rattle.rules.specs.Lists.{bytes_of}
 use Rattle.rules.specs.Sets.{unchanging}
-use Prim.Native.Nat.{◌-◌}
-use Rattle.writer.specs.Put.{Words}
+use Rattle.writer.specs.Put.{put_at}
 use Rattle.writer.proofs.put.put_own_heads.Given as goal
 
 abbrev pub invariant-loop-i : goal.invariant-loop-i
-invariant-loop-i l = Words l.initial.out 7 (unchanging l.cells) l.out l.i
-
-abbrev pub decreases-loop-i : goal.decreases-loop-i
-decreases-loop-i l = l.cells - l.i
+invariant-loop-i l = l.out ≡ put_at l.initial.out 7 (flat_map (bytes_of 2) (take l.i (unchanging l.cells)))
