@@ -23,7 +23,7 @@ impl From<u8> for Cell {
 }
 
 impl Instr {
-    // R5: the instruction that a two-byte number names.
+    // R5: the instruction that a two-byte number names. It is no `From`, which has no `requires`.
     pub fn of_word(n: usize) -> Instr
         requires { n < 65536 }
         ensures { result.0 ≡ n }
@@ -38,7 +38,7 @@ impl Row {
 
     pub const TRUE: Row = Row(1);
 
-    // R26: the row of a cell.
+    // R26: the row of a cell. It is no `From`, which has no `requires`.
     pub fn of_cell(c: Cell) -> Row
         requires { c.0 < 65534 }
         ensures { result.0 ≡ 2 + c.0 }

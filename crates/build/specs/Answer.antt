@@ -55,10 +55,6 @@ module _ (file : List ℕ) (rows numbers heads : ℕ) (out : List ℕ) where
           absurd (omega arith)
       go (refused n p) q k = cc
 
-  -- What writing answers, building does.
-  pub writes-builds : (w : Answer ℕ) (after : List ℕ) → Writes v w out after → Builds file rows numbers heads w out after
-  writes-builds w after g = record { answers = g.answer; output = g.output }
-
   -- R54, R55: the room to begin with.
   module _ (sh : Shape) (n : ℕ) (r : Standing file sh n 0) where
     abbrev P : Program

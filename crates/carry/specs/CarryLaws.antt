@@ -37,7 +37,7 @@ use Rattle.rows.specs.Stored.{stored-length, exceeds-more}
 use Rattle.rows.specs.Adding.{holds-add}
 use Rattle.rows.specs.Making.{carry-longer}
 use Rattle.rows.specs.declared.node.Node.{Node}
-use Rattle.sets.specs.Spelt.{set_in, rows_in, Inside, sized_inside, taken_sized, spelt_row, spelt-row, spelt-shape, spelt-length, spelt-head, spelt-heads, taken_proper, taken-canonical}
+use Rattle.sets.specs.Spelt.{set_in, rows_in, spelt_row, spelt-row, spelt-shape, spelt-length, spelt-head, spelt-heads, taken_proper, taken-canonical}
 use Rattle.carry.specs.Carrying.{Pair, Known, new_number, renumbered, carried, Carrying, Moving, new_heads}
 
 -- ---- new numbers
@@ -200,12 +200,6 @@ module _ (first second : List ℕ) (shape : Shape) (p : Pair first second shape)
 
   -- Where the code reads it; c is the number of cells.
   module _ (j : ℕ) (h : j < rows_in second) (c : ℕ) (e : c ≡ C) where
-    pub row_inside : Inside second (shape_of shape) (2 + c + j)
-    row_inside =
-        subst (λ (x : R.Shape). Inside second x (2 + c + j)) second-shape
-        (sized_inside second (shape_at old second) (rows_in second) (2 + c + j) (taken_sized second p.two)
-        (omega (arith, ap cells second-shape)))
-
     pub row-place : (n : Node) → node_row n ≡ spelt_row second (shape_of shape) (2 + c + j)
         → node_row n ≡ spelt_row second (shape_of shape) (L + j)
     row-place n q = q ∙ ap (λ k. spelt_row second (shape_of shape) (2 + k + j)) e

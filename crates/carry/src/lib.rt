@@ -103,7 +103,7 @@ pub fn carry_rows(
     Ok(())
 }
 
-// R34: the heads of the second set, renumbered.
+// R34: the heads of the second set, renumbered. `own` and `rewrite` have such a loop too; the one line in it is what differs.
 pub fn move_heads(first: &[u8], second: &[u8], shape: Shape, numbers: &[u16], heads: &mut [u16])
     requires { Moving first.now second.now shape numbers.now (length heads.old) }
     ensures { heads.new ≡ new_heads first.now second.now shape numbers.now }

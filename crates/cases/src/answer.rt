@@ -17,7 +17,8 @@ pub fn read_operation(from: &mut impl Read) -> io::Result<Option<u8>> {
     Ok(Some(operation[0]))
 }
 
-// The case whose operation was read.
+// The case whose operation was read. It stays the byte that a case file has, since it is matched here alone; and a `match`, since each
+// function takes other things.
 pub fn answer_case(
     from: &mut impl Read,
     to: &mut impl Write,

@@ -62,7 +62,7 @@ fn skip_some(from: &mut impl Read, left: usize) -> io::Result<usize>
     read_full(from, &mut buf[..count])
 }
 
-// Reads past so many bytes.
+// Reads past so many bytes. It counts what is left, and no index.
 fn skip_bytes(from: &mut impl Read, count: usize) -> Result<(), Stop> {
     let mut left = count;
     while 0 < left {

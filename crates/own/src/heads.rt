@@ -1,4 +1,5 @@
-// The heads of an instruction's own set: constants, cells, and the one row that was added (R16 to R19, R37).
+// The heads of an instruction's own set: constants, cells, and the one row that was added (R16 to R19, R37). The shape goes
+// with a `requires` here: a struct that holds the fact was tried, and is no plainer, since the check finds it at each call.
 ghost use Rattle.std.specs.Prelude.{◌≡◌, ◌≤◌, ◌<◌, length};
 ghost use Rattle.base.specs.Answers.{shape_of};
 ghost use Rattle.rules.specs.Shape.{vars, cells};
@@ -130,7 +131,7 @@ fn head_by(shape: Shape, stack: Move, c: Cell) -> Row
     }
 }
 
-// R16 to R19: the heads by a move of the stack.
+// R16 to R19: the heads by a move of the stack. `rewrite` and `carry` have such a loop too; the one line in it is what differs.
 fn move_heads(shape: Shape, stack: Move, made: &mut [u16])
     requires inside { Inside shape }
     requires made_len { length made.old ≡ cells (shape_of shape) }

@@ -34,7 +34,7 @@ fn check_variable(file: &[u8], shape: Shape, b: Cell, at: usize) -> Result<usize
     Ok(at + 1)
 }
 
-// R13: whether instruction i of n may jump to l: it comes later, and is one of the n.
+// R13: whether instruction i of n may jump to l: it comes later, and is one of the n. Both are compared as numbers, as the clause says.
 fn may_jump(i: Instr, l: Instr, n: usize) -> bool
     ensures { result ≡ (ltb i.0 l.0 && ltb l.0 n) }
 {

@@ -74,7 +74,7 @@ fn carry_rows(x: &[u16], table: &mut Table, numbers: &mut [u16]) -> Result<(), R
     Ok(())
 }
 
-// R34: the heads, renumbered.
+// R34: the heads, renumbered. `own` and `carry` have such a loop too; the one line in it is what differs.
 fn move_heads(numbers: &[u16], y: &[u16], made: &mut [u16])
     requires { Moving numbers.now y.now (length made.old) }
     ensures { made.new ≡ map (λ h. get_or numbers.now h 0) y.now }

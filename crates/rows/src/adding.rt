@@ -25,7 +25,8 @@ fn plan_node(rows: &[u64], node: Node) -> Plan
     }
 }
 
-// R30: the first of the used rows from `start` on that is held by that number; or how many are used.
+// R30: the first of the used rows from `start` on that is held by that number; or how many are used. It looks at one row after another,
+// since an index needs room that is not lent.
 fn find_entry(rows: &[u64], start: usize, used: usize, entry: u64) -> usize
     requires { (start ≤ used) × (used ≤ length rows.now) }
     ensures { (result ≡ seek (λ i. eqb (get_or rows.now i 0) entry) (used - start) start) × (result ≤ used) }

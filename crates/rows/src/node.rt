@@ -14,7 +14,7 @@ pub enum Node {
     Two(bool, Row, Row),
 }
 
-// The number with these three parts.
+// The number with these three parts. The kind stays the number that a slice holds: an enum would be turned into it in the same line.
 fn entry_with(kind: u64, left: Row, right: Row) -> u64
     requires { kind < 4 }
     ensures { (result ≡ entry_with kind left.0 right.0) × (left.0 < 65536) × (right.0 < 65536) }
@@ -22,7 +22,7 @@ fn entry_with(kind: u64, left: Row, right: Row) -> u64
     kind * 4294967296 + left.0 as u64 * 65536 + right.0 as u64
 }
 
-// The number that holds a row.
+// The number that holds a row. It and `node_of` are no `From`, since their clauses are those of the definitions here.
 pub fn entry_of(node: Node) -> u64
     ensures { (result ≡ entry (node_row node)) × Narrow (node_row node) }
 {

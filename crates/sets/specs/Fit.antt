@@ -1,10 +1,9 @@
 -- Whether a row fits: a law for each answer of the code.
-use Rattle.std.specs.Prelude.{ℕ, suc, ◌+◌, ◌*◌, ◌-◌, ◌≤◌, ◌<◌, ◌≡◌, Bool, true, false, cond, not, ◌&&◌, List, get_or, ltb, eqb}
+use Rattle.std.specs.Prelude.{ℕ, suc, ◌+◌, ◌*◌, ◌-◌, ◌≤◌, ◌<◌, ◌≡◌, Bool, true, false, cond, not, ◌&&◌, List, get_or, eqb}
 use Rattle.std.proofs.Math.Path.{refl}
 use Rattle.std.proofs.Common.{sym, ap, ◌∙◌, arith}
-use Rattle.std.proofs.Math.Bool.{and-true}
 use Rattle.std.proofs.Math.Decide.{dec_lt}
-use borrow.Author.Tests.{lt-ltb, le-ltb, eq-eqb, ne_eqb, eqb-true, not-true, not-false}
+use borrow.Author.Tests.{eq-eqb, ne_eqb, eqb-true, not-true, not-false}
 use Rattle.rules.specs.Edition.{old}
 use Rattle.rules.specs.Lists.{number_at}
 use Rattle.rules.specs.Shape.{Shape}
@@ -29,26 +28,6 @@ both : (p q : Bool) → (p ≡ true → q ≡ true) → (q ≡ true → p ≡ tr
 both true q f g = sym (f refl)
 both false true f g = g refl
 both false false f g = refl
-
--- ---- operands earlier
-
-module _ (k : ℕ) (r : Row) where
-  pub earlier-leaf : (i : ℕ) → r ≡ leaf i → true ≡ all_below k (operands r)
-  unfolding all_below
-  earlier-leaf i e = rw e refl
-
-  pub earlier-not : (a : ℕ) → r ≡ inv a → ltb a k ≡ all_below k (operands r)
-  unfolding all_below
-  earlier-not a e = rw e (sym (and-true (ltb a k)))
-
-  module _ (o : Bool) (a b : ℕ) (e : r ≡ bin o a b) where
-    pub earlier-two : a < k → ltb b k ≡ all_below k (operands r)
-    unfolding all_below
-    earlier-two h = rw (e, lt-ltb a k h) (sym (and-true (ltb b k)))
-
-    pub late_two : k ≤ a → ltb a k ≡ all_below k (operands r)
-    unfolding all_below
-    late_two h = rw (e, le-ltb a k h) refl
 
 -- ---- the plan
 

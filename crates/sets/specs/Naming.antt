@@ -2,9 +2,8 @@
 use Rattle.std.specs.Prelude.{ℕ, suc, ◌+◌, ◌*◌, ◌-◌, ◌≤◌, ◌<◌, ◌≡◌, Bool, true, false, cond, ◌&&◌, length, get_or, drop, eqb}
 use Rattle.std.proofs.Math.Path.{refl, sym}
 use Rattle.std.proofs.Common.{ap, ◌∙◌, arith, length-drop, get_or-drop}
-use Rattle.std.proofs.Math.Bool.{or-false}
 use mathlib.Core.List.{List, [], flat_map}
-use borrow.Author.Tests.{eq-eqb, ne_eqb}
+use borrow.Author.Tests.{ne_eqb}
 use Rattle.rules.specs.Edition.{old}
 use Rattle.rules.specs.Lists.{number_at, elem}
 use Rattle.rules.specs.Shape.{Shape, cells}
@@ -33,24 +32,6 @@ module _ (s : SetFile) (k c : ℕ) where
   head-none h f = sym (elem-none k x λ d l. f.none d (omega arith) (omega (arith, spells-heads s)))
 
 -- ---- operands
-
-module _ (k : ℕ) (r : Row) where
-  pub names-leaf : (i : ℕ) → r ≡ leaf i → false ≡ elem k (operands r)
-  unfolding elem
-  names-leaf i e = rw e refl
-
-  pub names-not : (a : ℕ) → r ≡ inv a → eqb k a ≡ elem k (operands r)
-  unfolding elem
-  names-not a e = rw e (sym (or-false (eqb k a)))
-
-  module _ (o : Bool) (a b : ℕ) (e : r ≡ bin o a b) where
-    pub names-first : k ≡ a → eqb k a ≡ elem k (operands r)
-    unfolding elem
-    names-first h = rw (e, eq-eqb k a h) refl
-
-    pub names-second : (k ≡ a → ⊥) → eqb k b ≡ elem k (operands r)
-    unfolding elem
-    names-second h = rw (e, ne_eqb k a h) (sym (or-false (eqb k b)))
 
 -- R42: a row whose two numbers are not k does not name row k.
 names_other : (k K a b : ℕ) → (a ≡ k → ⊥) → (b ≡ k → ⊥) → elem k (operands (row_of K a b)) ≡ false

@@ -1,19 +1,19 @@
 -- The table and the heads that the bytes of a set file spell, one by one.
 use Prim.Native.Nat.{ℕ, ◌+◌, ◌-◌, ◌≤◌, ◌<◌}
-use Rattle.std.specs.Prelude.{◌≡◌, cond, true, false, length, ltb}
+use Rattle.std.specs.Prelude.{◌≡◌, cond, length, ltb}
 use Rattle.std.proofs.Math.Path.{refl, ap, sym}
 use Rattle.std.proofs.Common.{◌∙◌, length-append, get_or-drop, drop_at}
 use mathlib.Core.List.{List, map, ◌++◌}
 use native.Mathlib.Omega.{arith}
 use Rattle.std.proofs.Math.Decide.{dec_lt}
 use Rattle.std.proofs.Math.ListN.{get_or, length-map, get_or-append}
-use borrow.Author.Tests.{lt-ltb, le-ltb, ne_eqb}
+use borrow.Author.Tests.{lt-ltb, le-ltb}
 use Rattle.rules.specs.Verdict.{granted}
 use Rattle.rules.specs.Edition.{old, count_at, header_end, most_rows}
 use Rattle.rules.specs.Lists.{number_at, from}
 use Rattle.rules.specs.Shape.{Shape, cells, shape_at}
-use Rattle.rules.specs.Rows.{Row, leaf, inv, bin, base, row_at}
-use Rattle.rules.specs.SetFile.{TransferSet, leaves, row_place, row_of, row_in, head_at, spelt, read_set}
+use Rattle.rules.specs.Rows.{Row, leaf, base, row_at}
+use Rattle.rules.specs.SetFile.{TransferSet, leaves, row_place, row_in, head_at, spelt, read_set}
 use Rattle.laws.specs.Lists.{get_or-map-from, length_from}
 use Rattle.base.specs.Answers.{shape_of}
 use Rattle.base.specs.declared.shape.Shape as B
@@ -50,28 +50,6 @@ row-bytes file sh i h = rw (le-ltb i (leaves sh) h) refl
 pub placed : (file : List ℕ) (sh : Shape) (i C p : ℕ) → C ≡ cells sh → p ≡ row_place old sh (i - (2 + C)) → 2 + C ≤ i
     → row_in file p ≡ spelt_row file sh i
 placed file sh i C p e q h = rw (q, e) (row-bytes file sh i (omega arith))
-
--- R42: the row with a kind and two operands.
-module _ (k a b : ℕ) where
-  pub of_and : k ≡ 2 → bin true a b ≡ row_of k a b
-  unfolding row_of
-  of_and e = rw e refl
-
-  pub of_or : k ≡ 3 → bin false a b ≡ row_of k a b
-  unfolding row_of
-  of_or e = rw e refl
-
-  pub of_not : k ≡ 1 → b ≡ 0 → inv a ≡ row_of k a b
-  unfolding row_of
-  of_not e z = rw (e, z) refl
-
-  pub of_none : (k ≡ 1 → ⊥) → (k ≡ 2 → ⊥) → (k ≡ 3 → ⊥) → leaf 0 ≡ row_of k a b
-  unfolding row_of
-  of_none p q r = rw (ne_eqb k 1 p, ne_eqb k 2 q, ne_eqb k 3 r) refl
-
-  pub of_spare : k ≡ 1 → (b ≡ 0 → ⊥) → leaf 0 ≡ row_of k a b
-  unfolding row_of
-  of_spare e z = rw (e, ne_eqb b 0 z) refl
 
 -- The table and the heads of what a file spells.
 module _ (file : List ℕ) (sh : Shape) (r : ℕ) where

@@ -30,7 +30,8 @@ fn first_bad_head(set: &SetFile<'_>) -> usize
     cells
 }
 
-// R43: the first operation row that does not fit.
+// R43: the first operation row that does not fit. It and `first_unnamed` stay two loops: a row may be asked whether it fits only after rows
+// that do, so a closure for the test would carry that in its contract.
 fn first_unfit(set: &SetFile<'_>) -> usize
     ensures { result ≡ seek (unfit set.now) (rows_in set.now.file.now) 0 }
 {

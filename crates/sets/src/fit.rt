@@ -15,13 +15,14 @@ use rows::node::{Node, last_operand, same_node};
 use rows::rule::{Plan, plan_not, plan_two};
 
 // R43: whether the operands of a row are earlier than row k.
+#[tactic(auto, unfolding(rules::specs::SetFile::all_below))]
 fn earlier(node: Node, k: Row) -> bool
     ensures { result ≡ F.all_below k.0 (operands (node_row node)) }
 {
     match node {
         Node::Leaf(_) => true,
-        Node::Not(a) => a.0 < k.0,
-        Node::Two(_, a, b) => a.0 < k.0 && b.0 < k.0,
+        Node::Not(a) => a < k,
+        Node::Two(_, a, b) => a < k && b < k,
     }
 }
 

@@ -19,7 +19,7 @@ fn is_head(set: &SetFile<'_>, k: Row) -> bool
 {
     let cells = set.shape.cells();
     for c in 0..cells {
-        if set.head(Cell(c as u16)).0 == k.0 {
+        if set.head(Cell(c as u16)) == k {
             return true;
         }
     }
@@ -27,13 +27,14 @@ fn is_head(set: &SetFile<'_>, k: Row) -> bool
 }
 
 // R26: whether a row names row k.
+#[tactic(auto, unfolding(rules::specs::Lists::elem))]
 fn names(node: Node, k: Row) -> bool
     ensures { result ≡ elem k.0 (operands (node_row node)) }
 {
     match node {
         Node::Leaf(_) => false,
-        Node::Not(a) => k.0 == a.0,
-        Node::Two(_, a, b) => k.0 == a.0 || k.0 == b.0,
+        Node::Not(a) => k == a,
+        Node::Two(_, a, b) => k == a || k == b,
     }
 }
 

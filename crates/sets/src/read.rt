@@ -111,26 +111,19 @@ pub fn row_place(shape: Shape, j: usize) -> usize
 }
 
 // R42: the row whose five bytes begin at a place.
+#[tactic(auto, unfolding(rules::specs::SetFile::row_in, rules::specs::SetFile::row_of))]
 pub fn node_in(file: &[u8], at: usize) -> Node
     requires { at + 5 ≤ length file.now }
     ensures { node_row result ≡ row_in file.now at }
 {
-    let kind = file[at];
     let left = row_word(file, at + 1);
     let right = row_word(file, at + 3);
-    if kind == 2 {
-        return Node::Two(true, left, right);
+    match file[at] {
+        1 if right == Row::FALSE => Node::Not(left),
+        2 => Node::Two(true, left, right),
+        3 => Node::Two(false, left, right),
+        _ => Node::Leaf(Row::FALSE),
     }
-    if kind == 3 {
-        return Node::Two(false, left, right);
-    }
-    if kind != 1 {
-        return Node::Leaf(Row::FALSE);
-    }
-    if right.0 != 0 {
-        return Node::Leaf(Row::FALSE);
-    }
-    Node::Not(left)
 }
 
 // R26, R41: row i of the table that a file spells.

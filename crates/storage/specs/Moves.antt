@@ -1,10 +1,9 @@
 -- A loop that replaces the end of a list from some place on, one store a turn.
-use Rattle.std.specs.Prelude.{ℕ, suc, ◌+◌, ◌-◌, ◌≤◌, ◌<◌, ◌≡◌, refl, List, [], ◌∷◌, ◌++◌, map, length, get_or, set, take, drop}
-use Rattle.std.proofs.Common.{ap, sym, ◌∙◌, append-nil, append_assoc, arith, add-one, length-set, length-drop, get_or-set_other, get_or-drop, take_all, take-suc, length-take-le}
-use Rattle.std.proofs.lemmas.List.{length-map, set_at}
+use Rattle.std.specs.Prelude.{ℕ, suc, ◌+◌, ◌-◌, ◌≤◌, ◌<◌, ◌≡◌, List, [], ◌∷◌, ◌++◌, length, get_or, set, take, drop}
+use Rattle.std.proofs.Common.{ap, ◌∙◌, append-nil, append_assoc, arith, add-one, length-set, length-drop, get_or-set_other, get_or-drop, take_all, take-suc, length-take-le}
+use Rattle.std.proofs.lemmas.List.{set_at}
 use Rattle.std.proofs.Math.ListN.{get_or-append}
-use Rattle.std.proofs.Math.Seq.{paste, paste-zero, paste-suc, drop-length}
-use Rattle.laws.specs.Lists.{get_d_map}
+use Rattle.std.proofs.Math.Seq.{paste, paste-suc, drop-length}
 
 -- After the turns for the places from `at` up to i, s is d with the first elements of q there.
 pub record Replacing (d : List ℕ) (at : ℕ) (q s : List ℕ) (i : ℕ) : Type 0 where
@@ -15,11 +14,6 @@ pub record Replacing (d : List ℕ) (at : ℕ) (q s : List ℕ) (i : ℕ) : Type
   pub later : (k : ℕ) → i ≤ k → get_or s k 0 ≡ get_or d k 0
 
 module _ {d : List ℕ} {at : ℕ} {q : List ℕ} where
-  pub replacing_none : at ≤ length d → Replacing d at q d at
-  replacing_none h =
-      let z : at - at ≡ 0 = omega arith in
-      record { low = omega arith; high = h; size = refl; is = rw z (paste-zero d at q); later = λ k p. refl }
-
   pub replacing_more : {s : List ℕ} {i v : ℕ} → Replacing d at q s i → i < length d → length d ≤ at + length q
       → v ≡ get_or q (i - at) 0 → Replacing d at q (set s i v) (i + 1)
   replacing_more {s} {i} {v} r h l e =
@@ -44,17 +38,6 @@ module _ {d : List ℕ} {at : ℕ} {q : List ℕ} where
 
   pub replacing_whole : {s : List ℕ} {i : ℕ} → Replacing d at q s i → length d ≤ i → length q ≤ length d - at → s ≡ take at d ++ q
   replacing_whole r h l = replacing_all r h ∙ ap (λ m. take at d ++ m) (take_all (length d - at) q l)
-
--- A loop that fills a list with what f gives the elements of another, in their order.
-module _ {A : Type 0} (f : A → ℕ) (xs : List A) {d : List ℕ} (size : length d ≡ length xs) where
-  pub mapping_more : (z : A) {s : List ℕ} {i v : ℕ} → Replacing d 0 (map f xs) s i → i < length s → v ≡ f (get_or xs i z)
-      → Replacing d 0 (map f xs) (set s i v) (i + 1)
-  mapping_more z {i = i} r h e =
-      let y : i - 0 ≡ i = omega arith in
-      replacing_more r (omega (arith, r.size)) (omega (arith, length-map xs f)) (e ∙ rw y (sym (get_d_map f xs i z 0 (omega (arith, r.size)))))
-
-  pub mapping_all : {s : List ℕ} {i : ℕ} → Replacing d 0 (map f xs) s i → length s ≤ i → s ≡ map f xs
-  mapping_all r h = replacing_whole r (omega (arith, r.size)) (omega (arith, length-map xs f))
 
 -- An element of a list that begins with the end of another.
 pub get_d_tail : (n : ℕ) (d t : List ℕ) (i : ℕ) → n + i < length d → get_or (drop n d ++ t) i 0 ≡ get_or d (n + i) 0

@@ -61,7 +61,7 @@ pub fn reset(s: &mut [u8], flag: Cell)
     s[at + 1..].fill(0);
 }
 
-// R3: a storage gets what another has.
+// R3: a storage gets what another has. `copy_heads` of `turn` is its twin for heads: each is one call.
 pub fn copy_cells(from: &[u8], to: &mut [u8])
     requires { length from.now ≡ length to.old }
     ensures { to.new ≡ from.now }

@@ -19,7 +19,7 @@ use reader::code::{AloneCode, LabelCode};
 use rewrite::follow;
 use table::Table;
 
-// Copies heads.
+// Copies heads. `copy_cells` of `storage` is its twin for cells: each is one call.
 pub fn copy_heads(from: &[u16], to: &mut [u16])
     requires { length from.now ≡ length to.old }
     ensures { to.new ≡ from.now }

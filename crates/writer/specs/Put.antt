@@ -1,7 +1,7 @@
 -- Bytes written into an output one after another, and tables of them.
 use Rattle.std.specs.Prelude.{ℕ, suc, ◌+◌, ◌*◌, ◌≤◌, ◌<◌, ◌≡◌, length, get_or, set, take, drop}
 use Rattle.std.proofs.Math.Path.{refl}
-use Rattle.std.proofs.Common.{ap, ◌∙◌, arith, add-zero, add-suc, suc-add, zero-add, take_all, length-take-le, add-one}
+use Rattle.std.proofs.Common.{◌∙◌, arith, add-zero, add-suc, suc-add, zero-add, take_all, length-take-le, add-one}
 use mathlib.Core.List.{List, [], ◌∷◌, ◌++◌, map, flat_map, append_assoc, append-nil}
 use Rattle.std.proofs.lemmas.List.{length-map, drop-drop, take_more}
 use borrow.Rule.Slice.PartMut.{put_mid}
@@ -20,9 +20,6 @@ put_at out at x = sets out at x
 pub length-put : (out : List ℕ) (at : ℕ) (x : List ℕ) → length (put_at out at x) ≡ length out
 unfolding put_at
 length-put out at x = length-sets out at x
-
-pub put-size : {next : List ℕ} (out : List ℕ) (at : ℕ) (x : List ℕ) → next ≡ put_at out at x → length next ≡ length out
-put-size out at x e = ap length e ∙ length-put out at x
 
 -- Bytes after bytes are bytes.
 pub put-put : (out : List ℕ) (at : ℕ) (x y : List ℕ) → put_at (put_at out at x) (at + length x) y ≡ put_at out at (x ++ y)

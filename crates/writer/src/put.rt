@@ -64,7 +64,7 @@ pub fn put_heads(out: &mut [u8], heads: &[u16], numbers: &[u16])
     }
 }
 
-// R42: the five bytes of a row.
+// R42: the five bytes of a row. The kind stays the byte that a file has: an enum would be turned into it in the same line.
 #[tactic(auto, using(crate::specs::Put::put_five))]
 fn put_parts(out: &mut [u8], at: usize, kind: u8, left: u16, right: u16)
     requires { at + 5 ≤ length out.old }
