@@ -6,7 +6,8 @@ use Rattle.rules.specs.Verdict.{Verdict, granted, refused}
 use Rattle.rules.specs.Shape as R
 use Rattle.base.specs.declared.shape.Shape.{Shape}
 use Rattle.base.specs.declared.refusal.Refusal.{Refusal}
-use Rattle.base.specs.declared.refusal.Refusal.TheVariants.{EndsEarly, WrongMark, OutOfRange, Misplaced, UnknownCode, BadExpression, NotWritable, BadLabel, LastNotEnd, NoRoom, BudgetSpent, ShapesDiffer, BadRow, BadStorage}
+use Rattle.base.specs.declared.refusal.Refusal.TheVariants.{EndsEarly, WrongMark, OutOfRange, Misplaced, UnknownCode, BadExpression}
+use Rattle.base.specs.declared.refusal.Refusal.TheVariants.{NotWritable, BadLabel, LastNotEnd, NoRoom, BudgetSpent, ShapesDiffer, BadRow, BadStorage}
 
 -- The shape of the rules that a shape of the code is.
 abbrev pub shape_of : Shape → R.Shape

@@ -130,7 +130,8 @@ module _ {C : ℕ} {t : List Row} {s : Table} (f x y : K.Row) (g : Among C t s f
         pub four_gives : (r : Answer K.Row) (s' : Table) → Kept s s₃ → Adds s₃ (Two false a b) r s'
             → Gives s r s' (four_rows t f.0 x.0 y.0)
         unfolding four_rows
-        four_gives r s' k ar = ends-before (add B.tab (bin false A.row B.row)).tab _ k r (holds-add sound_b.canonical gives_b.0 ar (bin false A.row B.row) ready_o row_o)
+        four_gives r s' k ar = ends-before (add B.tab (bin false A.row B.row)).tab _ k r
+            (holds-add sound_b.canonical gives_b.0 ar (bin false A.row B.row) ready_o row_o)
 
 -- ---- one cell
 

@@ -11,7 +11,7 @@ use Rattle.table.specs.declared.Table.{Table}
 use Rattle.rows.specs.Table.{Stored, Gives}
 use Rattle.rows.specs.Making.{Drawn, Draws}
 
--- The canonical table t is stored, and f, x and y are rows of it.
+-- The canonical table t is stored, and f, x and y are rows of it. The rows differ from call to call, so no type has it.
 pub record Among (C : ℕ) (t : List Row) (s : Table) (f x y : ℕ) : Type 0 where
   pub canonical : Canonical C t
   pub stored : Stored s t

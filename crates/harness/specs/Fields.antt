@@ -1,21 +1,12 @@
 -- What is known of a number and of a string that were read.
-use Rattle.std.specs.Prelude.{ℕ, ◌+◌, ◌*◌, ◌≤◌, ◌≡◌, List, get_or, length, take, Option, Some, None}
-use Rattle.std.proofs.Common.{subst, sym, arith, length-take-le}
+use Rattle.std.specs.Prelude.{ℕ, ◌+◌, ◌*◌, ◌≤◌, ◌≡◌, List, get_or, Option, Some, None}
+use Rattle.std.proofs.Common.{arith}
 use Rattle.rules.specs.Lists.{number_at}
 
 -- The bytes that a string holds are among those lent.
 abbrev pub Fits : Option ℕ → ℕ → Type 0
 Fits (Some n) lent = n ≤ lent
 Fits None lent = Unit {0}
-
--- So they are a part of what is lent, which keeps its length.
-pub held : (r : Option ℕ) (n : ℕ) (xs : List ℕ) {lent : ℕ} → Fits r lent → r ≡ Some n → length xs ≡ lent
-    → n ≤ length xs
-held r n xs {lent} f e k = let h : n ≤ lent = subst (λ (x : Option ℕ). Fits x lent) e f in omega (arith, h, k)
-
-pub held-part : (r : Option ℕ) (n : ℕ) (xs : List ℕ) {lent : ℕ} → Fits r lent → r ≡ Some n → length xs ≡ lent
-    → n ≡ length (take n xs)
-held-part r n xs f e k = sym (length-take-le _ _ (held r n xs f e k))
 
 -- A four-byte number by its bytes.
 pub number_four : (b : List ℕ)

@@ -12,7 +12,7 @@ use Rattle.program.specs.Standing.{program_in}
 use Rattle.program.specs.declared.file.Program.{Program}
 use Rattle.storage.specs.Cells.{bits_of, Storage}
 
--- Instruction i is one of the program, and the storage fits.
+-- Instruction i is one of the program, and the storage fits. Both change from step to step, so no type has it.
 pub record Runnable (p : Program) (s : List ℕ) (i : ℕ) : Type 0 where
   pub low : i < p.count
   pub stored : Storage (program_in p.file.now).shape s

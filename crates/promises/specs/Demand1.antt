@@ -10,7 +10,8 @@ use Rattle.rules.specs.Sets.{Heads}
 use Rattle.rules.specs.Build.{transfer}
 use Rattle.rules.specs.SetFile.{TransferSet, leaves, write_set, read_set}
 use Rattle.rules.specs.Room.{room, heads_to_build, numbers_to_compose, values_to_evaluate}
-use Rattle.rules.specs.Operations.{check_storage, evaluate_set, set_of, composed, unchanging_set, write_into, finish, scan, build, evaluate, same_shape, compose, blamed, write_unchanging}
+use Rattle.rules.specs.Operations.{check_storage, evaluate_set, set_of, composed, unchanging_set, write_into, finish}
+use Rattle.rules.specs.Operations.{scan, build, evaluate, same_shape, compose, blamed, write_unchanging}
 use Rattle.base.specs.Answers.{Answer, refused_by, verdict_of}
 use Rattle.base.specs.declared.refusal.Refusal.{Refusal}
 use Rattle.program.specs.Stages.{check_of}
@@ -131,7 +132,9 @@ finishes sh rows out h E full short fits = elim (dec_lt (room rows) (length h.ta
   | yes a ↦ rw (lt-ltb (room rows) (length h.tab) a) (full a)
   | no a ↦ elim (dec_lt out (length (write_set old (set_of sh h)))) [
     | yes b ↦ rw (le-ltb (room rows) (length h.tab) (omega arith), lt-ltb out _ b) (short (omega arith) b)
-    | no b ↦ rw (le-ltb (room rows) (length h.tab) (omega arith), le-ltb out (length (write_set old (set_of sh h))) (omega arith)) (fits (omega arith) (omega arith))
+    | no b ↦
+        rw (le-ltb (room rows) (length h.tab) (omega arith), le-ltb out (length (write_set old (set_of sh h))) (omega arith))
+        (fits (omega arith) (omega arith))
   ]
 ]
 

@@ -32,7 +32,9 @@ use Rattle.promises.specs.Demand1.{build-wrote}
 -- R16: an instruction gives every cell the value of its expression in the one table, all from the storage before it.
 pub table : (sh : Shape) (p : Plain) (s : List Bool) (c : ℕ) → c < cells sh → get_or (perform sh p s) c false ≡ eval s (effect sh p c)
 unfolding perform effects
-table sh p s c h = ap (λ l. get_or l c false) (map-map (eval s) (effect sh p) (from 0 (cells sh))) ∙ get_or-map-from (λ k. eval s (effect sh p k)) false (cells sh) c h
+table sh p s c h =
+    ap (λ l. get_or l c false) (map-map (eval s) (effect sh p) (from 0 (cells sh))) ∙
+    get_or-map-from (λ k. eval s (effect sh p k)) false (cells sh) c h
 
 -- R24, R25: a granted scan took as many steps as it says, and the machine stopped with what it leaves, and not sooner.
 pub record Stepped (P : Program) (s : List Bool) (steps : ℕ) (after : List ℕ) : Type 0 where

@@ -1,7 +1,8 @@
 -- Laws of a table in a lent slice: its rows, and appending to it.
 use Rattle.std.specs.Prelude.{Ok, Err}
 use Rattle.std.specs.Prelude.{ℕ, ◌+◌, ◌≤◌, ◌<◌, ◌≡◌, refl, List, [], ◌∷◌, ◌++◌, map, length, get_or, take, set}
-use Rattle.std.proofs.Common.{ap, sym, ◌∙◌, arith, add-one, length-set, length-take-le, get_or-take, take-suc, take_all, take-suc-set, get_or-set_same, get_or-set_other}
+use Rattle.std.proofs.Common.{ap, sym, ◌∙◌, arith, add-one, length-set, length-take-le, get_or-take}
+use Rattle.std.proofs.Common.{take-suc, take_all, take-suc-set, get_or-set_same, get_or-set_other}
 use Rattle.std.proofs.lemmas.List.{map-append, length-map}
 use Rattle.std.proofs.Math.Decide.{dec_lt}
 use Rattle.std.proofs.Math.ListN.{get_or-map}

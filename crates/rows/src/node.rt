@@ -6,7 +6,7 @@ ghost use Rattle.rows.specs.Entries.{node_row, entry_with, entry, row_of_entry, 
 
 use base::kinds::Row;
 
-// R26: the constant or cell of that number; NOT of a row; AND (true) or OR (false) of two.
+// R26: the constant or cell of that number; NOT of a row; AND (true) or OR (false) of two. The bool is that of `Rows.bin`.
 #[derive(Clone, Copy)]
 pub enum Node {
     Leaf(Row),

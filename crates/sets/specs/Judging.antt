@@ -51,7 +51,7 @@ unfit s j = not (fits (spells s).tab (leaves (shape_of s.shape) + j))
 abbrev pub unnamed : SetFile → ℕ → Bool
 unnamed s j = not (named (spells s).tab (spells s).heads (leaves (shape_of s.shape) + j))
 
--- R26: row k is an operation row of the file.
+-- R26: row k is an operation row of the file. The row differs from call to call, so no type has it.
 pub record Among (s : SetFile) (k : ℕ) : Type 0 where
   pub high : leaves (shape_of s.shape) ≤ k
   pub low : k < rows_of s

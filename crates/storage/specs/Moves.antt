@@ -1,6 +1,7 @@
 -- A loop that replaces the end of a list from some place on, one store a turn.
 use Rattle.std.specs.Prelude.{ℕ, suc, ◌+◌, ◌-◌, ◌≤◌, ◌<◌, ◌≡◌, List, [], ◌∷◌, ◌++◌, length, get_or, set, take, drop}
-use Rattle.std.proofs.Common.{ap, ◌∙◌, append-nil, append_assoc, arith, add-one, length-set, length-drop, get_or-set_other, get_or-drop, take_all, take-suc, length-take-le}
+use Rattle.std.proofs.Common.{ap, ◌∙◌, append-nil, append_assoc, arith, add-one, length-set, length-drop}
+use Rattle.std.proofs.Common.{get_or-set_other, get_or-drop, take_all, take-suc, length-take-le}
 use Rattle.std.proofs.lemmas.List.{set_at}
 use Rattle.std.proofs.Math.ListN.{get_or-append}
 use Rattle.std.proofs.Math.Seq.{paste, paste-suc, drop-length}

@@ -11,7 +11,7 @@ use Rattle.table.specs.declared.Table.{Table}
 abbrev pub room_of : Table → ℕ
 room_of s = room (length s.rows.now)
 
--- A call leaves the table in the slice that was lent.
+-- A call leaves the table in the slice that was lent. It speaks of before and after, so no invariant of a `Table` says it.
 pub record Kept (s s' : Table) : Type 0 where
   pub same : s'.rows.ghost_name ≡ s.rows.ghost_name
   pub size : length s'.rows.now ≡ length s.rows.now

@@ -7,7 +7,7 @@ ghost use Rattle.table.specs.Append.{Kept, Appends};
 
 use base::refusal::Refusal;
 
-// The rows that are lent, and how many of them are used.
+// The rows that are lent, and how many of them are used. A row names others by their numbers, as in a set file (R41): there is no heap.
 #[derive(Drop)]
 pub struct Table<'a> {
     rows: &'a mut [u64],

@@ -12,7 +12,7 @@ place t = t.at
 unfoldable pub size : Text → ℕ
 size t = length t.out.now
 
--- R61: there is room for a word.
+-- R61: there is room for a word. Each call needs its own, so no invariant of a `Text` says it.
 abbrev pub Fits : List ℕ → Text → Type 0
 Fits x t = place t + length x ≤ size t
 

@@ -8,4 +8,5 @@ returns-in-Not-clause-puts c =
 
 pub returns-in-Two-clause-puts : goal.returns-in-Two-clause-puts
 returns-in-Two-clause-puts c =
-    puts_two c.args.node c.args.x.now c.args.table.now c.args.numbers.now c.requires _ _ _ c.number_of-in-Two.result c.number_of-in-Two-2.result c.in-Two.is c.number_of-in-Two.ensures c.number_of-in-Two-2.ensures _ _ c.add-in-Two.ensures.adds
+    puts_two c.args.node c.args.x.now c.args.table.now c.args.numbers.now c.requires _ _ _ c.number_of-in-Two.result c.number_of-in-Two-2.result
+    c.in-Two.is c.number_of-in-Two.ensures c.number_of-in-Two-2.ensures _ _ c.add-in-Two.ensures.adds

@@ -26,8 +26,10 @@ carry_node-requires c =
 pub returns-in_err-row-clause-turns : goal.returns-in_err-row-clause-turns
 returns-in_err-row-clause-turns c =
     rw (passed c.from_residual.ensures.1)
-    (λ w. turn-full w.both _ _ _ w.state w.more c.node_of-node.result (rw c.rows.ensures at c.node_of-node.ensures) c.if-numbers-k-eq0.false _ c.carry_node.new.table c.in_err-row.ensures.puts)
+    (λ w. turn-full w.both _ _ _ w.state w.more c.node_of-node.result (rw c.rows.ensures at c.node_of-node.ensures)
+    c.if-numbers-k-eq0.false _ c.carry_node.new.table c.in_err-row.ensures.puts)
 
 pub returns-clause-turns : goal.returns-clause-turns
 returns-clause-turns c w =
-    turn-some w.both _ _ _ w.state w.more c.node_of-node.result (rw c.rows.ensures at c.node_of-node.ensures) c.if-numbers-k-eq0.false _ _ c.in_ok-row.ensures.puts
+    turn-some w.both _ _ _ w.state w.more c.node_of-node.result (rw c.rows.ensures at c.node_of-node.ensures)
+    c.if-numbers-k-eq0.false _ _ c.in_ok-row.ensures.puts

@@ -4,9 +4,11 @@ use lib.ListN.{length}
 use Rattle.base.specs.Answers.{passed}
 use Rattle.reader.specs.Codes.{alone_of, on_alone, on_expr, on_variable, alone-plain}
 use Rattle.program.specs.Standing.{contents-there, most-vars}
-use Rattle.turn.proofs.TurnLaws.{Acted, place, told, never-unknown, plain-next, owning, own_over, end_turned, own-following, plain-turned, label_cut, label_next, label_length, jumping, jump_turned}
+use Rattle.turn.proofs.TurnLaws.{Acted, place, told, never-unknown, plain-next, owning, own_over, end_turned}
+use Rattle.turn.proofs.TurnLaws.{own-following, plain-turned, label_cut, label_next, label_length, jumping, jump_turned}
 use Rattle.turn.proofs.turn_heads.Goals as goal
-use Rattle.turn.proofs.turn_heads.Goals.{Joined-instr_at, in-Alone+in_default+in_ok-own_alone-in_default, in-Value+in_ok-own_value-in-Value, in-Variable+in_ok-own_variable-in-Variable}
+use Rattle.turn.proofs.turn_heads.Goals.{Joined-instr_at, in-Alone+in_default+in_ok-own_alone-in_default}
+use Rattle.turn.proofs.turn_heads.Goals.{in-Value+in_ok-own_value-in-Value, in-Variable+in_ok-own_variable-in-Variable}
 
 pub instr_at-requires : goal.instr_at-requires
 instr_at-requires c = let s = place c.requires in (s.low, s.most, contents-there _ _ _ _ s)

@@ -7,4 +7,6 @@ use Rattle.lines.specs.Sets.{cell_text, lines_within}
 use Rattle.lines.proofs.set.put_cell_lines.Goals as goal
 
 pub put_cell_of-requires-clause-fits : goal.put_cell_of-requires-clause-fits
-put_cell_of-requires-clause-fits c = grind (arith, words, lines_within (cell_text (spells c.args.set.now)) 0 c.loop-c.c (cells (shape_of c.args.set.now.shape)) (omega arith))
+put_cell_of-requires-clause-fits c =
+    let set = c.args.set.now in
+    grind (arith, words, lines_within (cell_text (spells set)) 0 c.loop-c.c (cells (shape_of set.shape)) (omega arith))

@@ -9,4 +9,5 @@ use Rattle.lines.proofs.set.put_row_lines.Goals as goal
 
 pub put_row_of-requires-clause-fits : goal.put_row_of-requires-clause-fits
 put_row_of-requires-clause-fits c =
-    grind (arith, words, lines_within (row_text (spells c.args.set.now)) (leaves (shape_of c.args.set.now.shape)) c.loop-j.j (rows_in c.args.set.now.file.now) (omega arith))
+    let set = c.args.set.now in
+    grind (arith, words, lines_within (row_text (spells set)) (leaves (shape_of set.shape)) c.loop-j.j (rows_in set.file.now) (omega arith))

@@ -11,8 +11,10 @@ returns-then-at-file c = closed-more _ _ _ c.if-at-file.true
 
 pub returns-then-not-is_end : goal.returns-then-not-is_end
 returns-then-not-is_end c =
-    closed_other _ _ _ (omega arith) _ (rw c.of_word.ensures at c.body_at-last.ensures.0) _ (c.is_end.ensures ∙ ap is_end_body c.decode.ensures) (ap not c.if-not-is_end.true)
+    closed_other _ _ _ (omega arith) _ (rw c.of_word.ensures at c.body_at-last.ensures.0) _
+    (c.is_end.ensures ∙ ap is_end_body c.decode.ensures) (ap not c.if-not-is_end.true)
 
 pub returns : goal.returns
 returns c =
-    closed_end _ _ _ (omega arith) _ (rw c.of_word.ensures at c.body_at-last.ensures.0) _ (c.is_end.ensures ∙ ap is_end_body c.decode.ensures) (ap not c.if-not-is_end.false)
+    closed_end _ _ _ (omega arith) _ (rw c.of_word.ensures at c.body_at-last.ensures.0) _
+    (c.is_end.ensures ∙ ap is_end_body c.decode.ensures) (ap not c.if-not-is_end.false)

@@ -1,7 +1,8 @@
 -- `add_expression` meets its contract: what is left to read falls at each call of itself.
 use Rattle.base.specs.Answers.{passed}
 use Rattle.rows.specs.Stored.{kept_trans}
-use Rattle.spell.specs.SpellLaws.{spell_leaf, operand_spelling, spell_full, second_spelling, spell_addable, spell_not, spell_not_full, spell_second_full, both-addable, spell_two, spell_two_full}
+use Rattle.spell.specs.SpellLaws.{spell_leaf, operand_spelling, spell_full, second_spelling, spell_addable}
+use Rattle.spell.specs.SpellLaws.{spell_not, spell_not_full, spell_second_full, both-addable, spell_two, spell_two_full}
 use Rattle.program.specs.Reading.{read-before, read-inside, second-later}
 use lib.ListN.{get_or}
 use native.Mathlib.Omega.{arith}
