@@ -1,12 +1,12 @@
 // The rows of the first set copied, and those of the second rewritten onto them (R34, R40).
 #![tactic(auto)]
 
-ghost use Rattle.std.specs.Prelude.{◌≡◌, ◌+◌, ◌<◌, length};
+ghost use Rattle.std.specs.Prelude.{◌≡◌, ◌+◌, ◌≤◌, ◌<◌, length, Ok};
 ghost use Rattle.rules.specs.SetFile.{leaves};
 ghost use Rattle.base.specs.Answers.{shape_of};
 ghost use Rattle.laws.specs.Canonical.{Operands};
 ghost use Rattle.rows.specs.Entries.{node_row};
-ghost use Rattle.table.specs.Append.{Kept};
+ghost use Rattle.table.specs.Append.{Kept, room_of};
 ghost use Rattle.rows.specs.Table.{Holds};
 ghost use Rattle.sets.specs.Spelt.{set_in, rows_in};
 ghost use Rattle.carry.specs.Carrying.{Copied, Known, new_number, renumbered, Carrying, Carries, Moving, new_heads};
@@ -20,9 +20,10 @@ use rows::node::{Node, entry_of};
 use sets::read::{head_in, row_in};
 use table::Table;
 
-// The rows of a set file, appended to an empty table one after another.
+// The rows of a set file, appended to an empty table one after another. With room for all of them it does not fail.
 pub fn copy_rows(file: &[u8], shape: Shape, total: usize, table: &mut Table) -> Result<(), Refusal>
     requires { Copied file.now shape total table.old }
+    ensures room { total ≤ room_of table.old → result ≡ Ok tt }
     ensures kept { Kept table.old table.new }
     ensures holds { Holds table.old result table.new (set_in file.now).tab }
 {

@@ -1,9 +1,13 @@
-// The operations on one file: it is checked, or run on a storage. A case is read whole before it is answered.
+// The operations on one file: it is checked, or run on a storage. A case is read whole before it is answered, and
+// nothing is lent before its sizes are looked at.
 use base::refusal::Refusal;
 use harness::read::{Stop, read_number, read_string};
 use harness::run::{evaluate_kept, say_checked, scan_kept};
 use harness::show::too_large;
 use std::io::{Read, Write};
+
+// The most values that are lent.
+const VALUES: usize = 70000;
 
 // 1, 4: checks a program, or a set.
 pub fn check_case<C: FnOnce(&[u8]) -> Result<(), Refusal>>(
@@ -30,10 +34,10 @@ pub fn scan_case(
     let program = read_string(from, file)?;
     let storage = read_string(from, cells)?;
     let budget = read_number(from)?;
-    let mut before = [0u8; 4096];
     let (Some(n), Some(m)) = (program, storage) else {
         return Ok(too_large(to)?);
     };
+    let mut before = [0u8; 4096];
     Ok(scan_kept(to, &file[..n], &mut cells[..m], &mut before[..m], budget)?)
 }
 
@@ -47,10 +51,19 @@ pub fn evaluate_case(
     let set = read_string(from, file)?;
     let storage = read_string(from, cells)?;
     let count = read_number(from)? as usize;
-    let mut before = [0u8; 4096];
-    let mut values = [0u8; 70000];
-    let (Some(n), Some(m), Some(values)) = (set, storage, values.get_mut(..count)) else {
+    let (Some(n), Some(m)) = (set, storage) else {
         return Ok(too_large(to)?);
     };
-    Ok(evaluate_kept(to, &file[..n], &mut cells[..m], &mut before[..m], values)?)
+    if VALUES < count {
+        return Ok(too_large(to)?);
+    }
+    let mut before = [0u8; 4096];
+    let mut values = [0u8; VALUES];
+    Ok(evaluate_kept(
+        to,
+        &file[..n],
+        &mut cells[..m],
+        &mut before[..m],
+        &mut values[..count],
+    )?)
 }

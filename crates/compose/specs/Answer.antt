@@ -155,7 +155,7 @@ module _ (first second : List ℕ) (shape : Shape) (pair : Pair first second sha
   shape_is : (set_in first).shape ≡ shape_of shape
   shape_is = spelt-shape first (shape_at old first) (rows_in first) ∙ sym pair.shaped
 
-  shape-checked : check_shape old (shape_of shape) ≡ granted tt
+  pub shape-checked : check_shape old (shape_of shape) ≡ granted tt
   shape-checked = rw shape_is at (taken_proper first pair.one).shaped
 
   -- R54, R59: what the rules finish with is what they answer.

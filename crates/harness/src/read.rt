@@ -44,13 +44,12 @@ pub fn read_number(from: &mut impl Read) -> Result<u32, Stop> {
     Ok(number_of(b))
 }
 
-// Reads so many numbers.
-pub fn read_numbers<const N: usize>(from: &mut impl Read) -> Result<[usize; N], Stop> {
-    let mut numbers = [0usize; N];
-    for n in &mut numbers {
+// Reads numbers into what was lent.
+pub fn read_numbers(from: &mut impl Read, lent: &mut [usize]) -> Result<(), Stop> {
+    for n in lent {
         *n = read_number(from)? as usize;
     }
-    Ok(numbers)
+    Ok(())
 }
 
 // Reads at most 4,096 bytes of those that are left, and says how many came.
@@ -63,7 +62,7 @@ fn skip_some(from: &mut impl Read, left: usize) -> io::Result<usize>
 }
 
 // Reads past so many bytes. It counts what is left, and no index.
-fn skip_bytes(from: &mut impl Read, count: usize) -> Result<(), Stop> {
+pub fn skip_bytes(from: &mut impl Read, count: usize) -> Result<(), Stop> {
     let mut left = count;
     while 0 < left {
         let got = skip_some(from, left)?;

@@ -77,7 +77,7 @@ fn work_is_zero(rows: &[u64], numbers: &[u16]) -> bool {
 fn show_built(to: &mut impl Write, r: Result<usize, Refusal>, out: &[u8]) -> io::Result<()> {
     match r {
         Ok(n) => say_wrote(to, n, out, 165),
-        Err(x) => refused_output(to, x, "", out, 165),
+        Err(x) => refused_output(to, x, b"\n", out, 165),
     }
 }
 
@@ -107,9 +107,9 @@ pub fn build_shown(
 fn show_composed(to: &mut impl Write, r: Result<usize, Blame>, out: &[u8]) -> io::Result<()> {
     match r {
         Ok(n) => say_wrote(to, n, out, 165),
-        Err(Blame::First(x)) => refused_output(to, x, " in first", out, 165),
-        Err(Blame::Second(x)) => refused_output(to, x, " in second", out, 165),
-        Err(Blame::Neither(x)) => refused_output(to, x, "", out, 165),
+        Err(Blame::First(x)) => refused_output(to, x, b" in first\n", out, 165),
+        Err(Blame::Second(x)) => refused_output(to, x, b" in second\n", out, 165),
+        Err(Blame::Neither(x)) => refused_output(to, x, b"\n", out, 165),
     }
 }
 
@@ -136,6 +136,6 @@ pub fn unchanging_shown(to: &mut impl Write, shape: Shape, out: &mut [u8]) -> io
     out.fill(165);
     match write_unchanging(shape, out) {
         Ok(n) => say_wrote(to, n, out, 165),
-        Err(x) => refused_output(to, x, "", out, 165),
+        Err(x) => refused_output(to, x, b"\n", out, 165),
     }
 }

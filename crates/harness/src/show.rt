@@ -26,18 +26,19 @@ pub fn refused_on(to: &mut impl Write, x: Refusal, cells: &[u8], before: &[u8]) 
     say_refusal(to, x)
 }
 
-// A refusal leaves the output filled with x. Its line ends with a word.
+// A refusal leaves the output filled with x. What its line ends with is given.
 pub fn refused_output(
     to: &mut impl Write,
     r: Refusal,
-    end: &str,
+    end: &[u8],
     out: &[u8],
     x: u8,
 ) -> io::Result<()> {
     if !all_are(out, x) {
         return broken(to);
     }
-    writeln!(to, "{r}{end}")
+    write!(to, "{r}")?;
+    to.write_all(end)
 }
 
 fn say_bytes(to: &mut impl Write, s: &[u8]) -> io::Result<()> {

@@ -57,16 +57,16 @@ lines_length f w l (suc n) h = omega (
 
 -- ---- room for the text of a file, and of a refusal
 
+-- R1, R2: there are few cells.
+pub few-cells : (file : List ℕ) → Taken file → cells (shape_at old file) ≤ 217
+few-cells file a =
+    let l = shape-limits old (shape_at old file) (header-granted old 2 file (shape_at old file) a.header).shaped in
+    omega (arith, l.shallow, l.most)
+
 -- R64: a set in at most 40,957 bytes has a text of at most 230,000.
 module _ (file : List ℕ) (a : Taken file) (h : length file ≤ 40957) where
   abbrev z : TransferSet
   z = set_in file
-
-  -- R1, R2: there are few cells.
-  few-cells : cells (shape_at old file) ≤ 217
-  few-cells =
-      let l = shape-limits old (shape_at old file) (header-granted old 2 file (shape_at old file) a.header).shaped in
-      omega (arith, l.shallow, l.most)
 
   rows_are : length z.tab ≡ leaves (shape_at old file) + rows_in file
   rows_are = spelt-length file (shape_at old file) (rows_in file)
@@ -74,7 +74,7 @@ module _ (file : List ℕ) (a : Taken file) (h : length file ≤ 40957) where
   cells-length : length (flat_map (cell_text z) (from 0 (cells (shape_at old file)))) ≤ 16 * cells (shape_at old file)
   unfolding cell_text
   cells-length = lines_length (cell_text z) 16 0 (cells (shape_at old file)) (λ k p q. cell-length k _
-      (omega (arith, few-cells)) (omega (arith, (taken_proper file a).rows k, rows_are, a.room)))
+      (omega (arith, few-cells file a)) (omega (arith, (taken_proper file a).rows k, rows_are, a.room)))
 
   rows-length : length (flat_map (row_text z) (from (leaves (shape_at old file)) (rows_in file))) ≤ 27 * rows_in file
   unfolding row_text
@@ -92,10 +92,10 @@ module _ (file : List ℕ) (a : Taken file) (h : length file ≤ 40957) where
         arith,
         length-append first (heads ++ rows),
         length-append heads rows,
-        first-length C r (omega (arith, few-cells)) (omega (arith, a.room)),
+        first-length C r (omega (arith, few-cells file a)) (omega (arith, a.room)),
         cells-length,
         rows-length,
-        few-cells,
+        few-cells file a,
         a.size,
       ))
 

@@ -16,14 +16,14 @@ use storage::{check_cells, copy_cells};
 
 // The steps, on a copy of the storage, which is handed over when the machine has stopped.
 fn scan_on(
-    program: Program,
+    program: &Program<'_>,
     storage: &mut [u8],
     copy: &mut [u8],
     budget: u32,
 ) -> Result<u32, Refusal>
-    requires runnable { Runnable program storage.old 0 }
+    requires runnable { Runnable program.now storage.old 0 }
     requires storage_len { length storage.old ≡ length copy.old }
-    ensures { Scans program.entry.file.now storage.old budget result storage.new }
+    ensures { Scans program.now.file.now storage.old budget result storage.new }
 {
     copy_cells(storage, copy);
     let left = run_from(program, copy, Instr(0), budget).map_err(Refusal::BudgetSpent)?;
@@ -32,9 +32,9 @@ fn scan_on(
 }
 
 // Lends the copy: 217 cells are the most that a shape has (R1, R2).
-fn scan_cells(program: Program, storage: &mut [u8], budget: u32) -> Result<u32, Refusal>
-    requires { Runnable program storage.old 0 }
-    ensures { Scans program.entry.file.now storage.old budget result storage.new }
+fn scan_cells(program: &Program<'_>, storage: &mut [u8], budget: u32) -> Result<u32, Refusal>
+    requires { Runnable program.now storage.old 0 }
+    ensures { Scans program.now.file.now storage.old budget result storage.new }
 {
     let mut copy = [0u8; 217];
     let cells = storage.len();
@@ -48,5 +48,5 @@ pub fn scan(file: &[u8], storage: &mut [u8], budget: u32) -> Result<u32, Refusal
 {
     let program = Program::read(file)?;
     check_cells(storage, program.shape.cells())?;
-    scan_cells(program, storage, budget)
+    scan_cells(&program, storage, budget)
 }

@@ -12,7 +12,7 @@ use instruction::perform::{alone_op, value_op, variable_op};
 use program::file::Program;
 use reader::body::Body;
 use reader::code::{AloneCode, LabelCode};
-use storage::cell_at;
+use storage::{cell_at, reset};
 
 // Where the machine goes after an instruction.
 #[derive(Clone, Copy)]
@@ -41,20 +41,23 @@ fn jump(shape: Shape, s: &[u8], code: LabelCode, next: Instr, l: Instr) -> Move
 }
 
 // Performs one instruction on the storage, and says where the machine goes (R16 to R23).
-pub fn obey(program: Program, s: &mut [u8], i: Instr) -> Move
-    requires { Runnable program s.old i.0 }
-    ensures { Obeys program.entry.file.now s.old i.0 result s.new }
+pub fn obey(program: &Program<'_>, s: &mut [u8], i: Instr) -> Move
+    requires { Runnable program.now s.old i.0 }
+    ensures { Obeys program.now.file.now s.old i.0 result s.new }
 {
     let shape = program.shape;
     let next = Instr(i.0 + 1);
     match program.instr(i) {
-        Body::Alone(code) => {
-            alone_op(shape, s, code);
-            match code {
-                AloneCode::End => Move::End,
-                _ => Move::On(next),
+        Body::Alone(code) => match code {
+            AloneCode::End => {
+                reset(s, shape.flag());
+                Move::End
             }
-        }
+            _ => {
+                alone_op(shape, s, code);
+                Move::On(next)
+            }
+        },
         Body::Value(code, at) => {
             let x = value_at(program.file, s, shape.vars(), at + 64, at);
             value_op(shape, s, code, x.bit);

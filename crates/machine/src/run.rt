@@ -7,9 +7,9 @@ use program::file::Program;
 
 // Steps from instruction i until its part ends, and answers how many steps are left; or the budget is spent, and it answers the
 // instruction that is due. The return list is the recursion itself (R21).
-pub fn run_from(program: Program, s: &mut [u8], i: Instr, left: u32) -> Result<u32, Instr>
-    requires { Runnable program s.old i.0 }
-    ensures { Ends program.entry.file.now s.old i.0 left result s.new }
+pub fn run_from(program: &Program<'_>, s: &mut [u8], i: Instr, left: u32) -> Result<u32, Instr>
+    requires { Runnable program.now s.old i.0 }
+    ensures { Ends program.now.file.now s.old i.0 left result s.new }
 {
     if left == 0 {
         return Err(i);

@@ -130,7 +130,7 @@ module _ {sh : Shape} {x rows : List ℕ} {used room : ℕ} (T : Tabled sh x row
   size : length (table_in rows used) ≡ used
   size = table-length rows used T.held
 
-  heads_fit : (n : ℕ) → n ≡ room → (c : ℕ) → get_or x c 0 < n
+  pub heads_fit : (n : ℕ) → n ≡ room → (c : ℕ) → get_or x c 0 < n
   heads_fit n e c = omega (arith, T.stands.low c, T.room, size)
 
   pub walk_heads : (d : List ℕ) {s u : List ℕ} → length d ≡ room → s ≡ work_after d → u ≡ mark_all x s

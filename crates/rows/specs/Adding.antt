@@ -6,6 +6,7 @@ use Rattle.rules.specs.Lists.{seek}
 use Rattle.rules.specs.Room.{room}
 use Rattle.rules.specs.Rows.{Row, leaf, inv, bin, row_at, have, make, plan, plan_not, plan_bin, absorbing, neutral, settle, insert, find, add, same}
 use Rattle.laws.specs.Canonical.{Below, Canonical}
+use Rattle.laws.specs.Grow.{ext_length, add_extends}
 use Rattle.laws.specs.Rows.{Inserts, stood, fresh, inserts}
 use Rattle.laws.specs.Rule.{Ready, ready-below, Right, below_more, plan-kept, plan-right, canonical-below}
 use Rattle.laws.specs.Search.{last_of, last-low, find-from, none_to_last}
@@ -189,3 +190,7 @@ module _ (s : Table) (n : Node) (p : P.Plan) (planned : plan_row p ≡ plan (map
 pub holds-add : {C : ℕ} {s s' : Table} {t : List Row} {n : Node} {x : Answer K.Row} → Canonical C t → Stored s t
     → Adds s n x s' → (r : Row) → Ready (length t) r → node_row n ≡ r → Gives s x s' (add t r)
 holds-add {C} {t = t} w g a r h same = rw same at (a.gives C t w g (rw same h))
+
+-- R54: what was refused before an addition stands refused for the table after the rule's, too.
+pub refused-add : {s : Table} {x : Refusal} {t : List Row} → Exceeds s x t → (r : Row) → Exceeds s x (add t r).tab
+refused-add {t = t} o r = record { place = o.place; more = omega (arith, o.more, ext_length (add_extends t r)) }

@@ -11,6 +11,7 @@ ghost use Rattle.sets.specs.Judging.{spells, rows_of, Among, FitBefore, Made, sa
 use crate::read::SetFile;
 use base::bytes::word;
 use base::kinds::Row;
+use base::shape::Shape;
 use rows::node::{Node, last_operand, same_node};
 use rows::rule::{Plan, plan_not, plan_two};
 
@@ -49,10 +50,10 @@ fn makes(plan: Plan, node: Node) -> bool
 }
 
 // R41: how many operation rows stand up to row i.
-pub fn rows_to(set: &SetFile<'_>, i: Row) -> usize
-    ensures { result ≡ suc i.0 - F.leaves (shape_of set.now.shape) }
+pub fn rows_to(shape: Shape, i: Row) -> usize
+    ensures { result ≡ suc i.0 - F.leaves (shape_of shape) }
 {
-    let leaves = set.leaves();
+    let leaves = 2 + shape.cells();
     let next = i.0 as usize + 1;
     if next < leaves {
         return 0;
@@ -82,9 +83,9 @@ fn none_equal(set: &SetFile<'_>, last: Row, k: Row) -> bool
     ensures { let t = (spells set.now).tab in result ≡ eqb (R.find t (R.row_at t k.0)) k.0 }
 {
     let first = set.place(0);
-    let n = rows_to(set, k) - 1;
+    let n = rows_to(set.shape, k) - 1;
     let at = first + 5 * n;
-    for j in rows_to(set, last)..n {
+    for j in rows_to(set.shape, last)..n {
         if same_bytes(set.file, first + 5 * j, at) {
             return false;
         }

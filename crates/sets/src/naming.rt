@@ -59,7 +59,7 @@ fn is_operand(set: &SetFile<'_>, k: Row) -> bool
 {
     let first = set.place(0);
     let rows = set.rows();
-    for j in rows_to(set, k)..rows {
+    for j in rows_to(set.shape, k)..rows {
         if names_at(set.file, first + 5 * j, k) {
             return true;
         }

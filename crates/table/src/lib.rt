@@ -8,10 +8,11 @@ ghost use Rattle.table.specs.Append.{Kept, Appends};
 use base::refusal::Refusal;
 
 // The rows that are lent, and how many of them are used. A row names others by their numbers, as in a set file (R41): there is no heap.
+// Both are public: one may go on with rows that a slice holds already, or keep how many are used and go back to that.
 #[derive(Drop)]
 pub struct Table<'a> {
-    rows: &'a mut [u64],
-    used: usize,
+    pub rows: &'a mut [u64],
+    pub used: usize,
 }
 
 // R53: how many of so many rows may be used.

@@ -1,14 +1,24 @@
 -- `obey` meets its contract: a law for each kind of body.
-use mathlib.Core.Path.{refl}
+use mathlib.Core.Path.{refl, ap, ◌∙◌}
+use native.Mathlib.Omega.{arith}
+use Rattle.storage.specs.Cells.{stored, reset_from}
 use Rattle.machine.specs.ObeyLaws.{fitting, readable, variable-low, obeys_end, obeys_alone, obeys_value, obeys_variable}
 use Rattle.machine.proofs.obey.obey.Goals as goal
 
 pub alone_op-requires : goal.alone_op-requires
 alone_op-requires c = fitting _ _ _ c.requires
 
+pub flag-requires : goal.flag-requires
+flag-requires c = omega (arith, (fitting _ _ _ c.requires).most)
+
+pub reset-requires : goal.reset-requires
+reset-requires c = omega (arith, (fitting _ _ _ c.requires).storage.size, c.flag.ensures)
+
 pub returns-in-End : goal.returns-in-End
+unfolding stored
 returns-in-End c =
-    obeys_end _ _ _ c.requires _ c.instr.ensures _ c.in-Alone.is c.in-End.is _ c.alone_op.ensures
+    obeys_end _ _ _ c.requires _ c.instr.ensures _ c.in-Alone.is c.in-End.is _
+    (rw c.in-End.is (c.reset.ensures ∙ ap (λ f. reset_from f c.args.s.now) c.flag.ensures))
 
 pub value_at-x-requires : goal.value_at-x-requires
 value_at-x-requires c = readable _ _ _ c.requires _ c.instr.ensures _ _ c.in-Value.is _ c.vars.ensures
