@@ -1,5 +1,5 @@
 -- Copying the rows of a set file into a slice: what the file says of each.
-use Rattle.std.specs.Prelude.{ℕ, ◌+◌, ◌<◌, ◌≡◌, List, length}
+use Rattle.std.specs.Prelude.{ℕ, ◌+◌, ◌≤◌, ◌<◌, ◌≡◌, List, length}
 use Rattle.std.proofs.Common.{ap, sym, subst, ◌∙◌, arith}
 use Rattle.rules.specs.Edition.{old}
 use Rattle.rules.specs.Shape as R
@@ -8,12 +8,17 @@ use Rattle.rules.specs.Rows.{row_at}
 use Rattle.base.specs.Answers.{shape_of}
 use Rattle.base.specs.declared.shape.Shape.{Shape}
 use Rattle.table.specs.declared.Table.{Table}
+use Rattle.table.specs.Append.{room_of}
 use Rattle.sets.specs.Spelt.{set_in, rows_in, Inside, spelt_row, sized_inside, spelt-row, spelt-length, taken_sized}
 use Rattle.carry.specs.Carrying.{Copied}
 
 module _ (file : List ℕ) (shape : Shape) (total : ℕ) (s : Table) (w : Copied file shape total s) where
   size : length (set_in file).tab ≡ 2 + cells (shape_at old file) + rows_in file
   size = spelt-length file (shape_at old file) (rows_in file)
+
+  -- There is room for all rows, where as many are lent.
+  pub copied-room : total ≤ length s.rows.now → total ≤ room_of s
+  copied-room h = omega (arith, h, w.taken.room, size, w.whole)
 
   module _ (i : ℕ) (h : i < total) where
     pub copied-inside : Inside file (shape_of shape) i

@@ -6,7 +6,7 @@ ghost use Rattle.rules.specs.SetFile.{leaves};
 ghost use Rattle.base.specs.Answers.{shape_of};
 ghost use Rattle.laws.specs.Canonical.{Operands};
 ghost use Rattle.rows.specs.Entries.{node_row};
-ghost use Rattle.table.specs.Append.{Kept, room_of};
+ghost use Rattle.table.specs.Append.{Kept};
 ghost use Rattle.rows.specs.Table.{Holds};
 ghost use Rattle.sets.specs.Spelt.{set_in, rows_in};
 ghost use Rattle.carry.specs.Carrying.{Copied, Known, new_number, renumbered, Carrying, Carries, Moving, new_heads};
@@ -23,7 +23,7 @@ use table::Table;
 // The rows of a set file, appended to an empty table one after another. With room for all of them it does not fail.
 pub fn copy_rows(file: &[u8], shape: Shape, total: usize, table: &mut Table) -> Result<(), Refusal>
     requires { Copied file.now shape total table.old }
-    ensures room { total ≤ room_of table.old → result ≡ Ok tt }
+    ensures room { total ≤ length table.old.rows.now → result ≡ Ok tt }
     ensures kept { Kept table.old table.new }
     ensures holds { Holds table.old result table.new (set_in file.now).tab }
 {

@@ -1,4 +1,5 @@
-// The operations that write a set. A case is read whole before it is answered, and nothing is lent before its sizes are looked at.
+// The operations that write a set. A case is read whole before it is answered, and work and output are lent once their
+// sizes were looked at.
 ghost use Rattle.std.specs.Prelude.{◌≤◌};
 
 use base::shape::Shape;

@@ -2,11 +2,15 @@
 ghost use Rattle.std.specs.Prelude.{◌≡◌};
 ghost use Rattle.harness.specs.Lent.{all_are, Tells};
 
-// Whether every element is x.
+// Whether every element is x. It looks at all of them, whatever it finds: a loop that leaves early is compiled to a step an element.
 pub fn all_are<T: PartialEq + Copy>(s: &[T], x: T) -> bool
     ensures { result ≡ all_are T.eq x s.now }
 {
-    s.iter().all(|y| *y == x)
+    let mut same = true;
+    for y in s {
+        same = same & (*y == x);
+    }
+    same
 }
 
 // Whether two slices hold the same bytes.

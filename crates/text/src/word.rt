@@ -7,11 +7,11 @@ ghost use Rattle.text.specs.Puts.{place, Fits, with_word};
 
 use base::kinds::{Cell, Row};
 
-// The output, and the place after what is put.
+// The output, and the place after what is put. Both are public: a text may go on at any place.
 #[derive(Drop)]
 pub struct Text<'a> {
-    out: &'a mut [u8],
-    at: usize,
+    pub out: &'a mut [u8],
+    pub at: usize,
 }
 
 impl<'a> Text<'a> {

@@ -49,7 +49,8 @@ pub fn write_unchanging(shape: Shape, out: &mut [u8]) -> Result<usize, Refusal>
 }
 
 // R36, R41, R59: writes the set that heads over a table are: the rows that they reach, renumbered in order. A short output is untouched.
-fn write_table(
+// It reads the rows from any slice, so a caller needs no `Table`.
+pub fn write_table(
     shape: Shape,
     heads: &[u16],
     rows: &[u64],
