@@ -20,7 +20,8 @@ const HEADS: usize = 112000;
 const OUTPUT: usize = 400000;
 
 // Lends so many rows, numbers, heads and bytes of output. What lends has no way out before, since a function with one clears what
-// it lends twice.
+// it lends twice; and it is not put into its caller, whose other calls would pay its stack.
+#[inline(never)]
 fn build_lent(
     to: &mut impl Write,
     file: &[u8],
@@ -61,6 +62,7 @@ pub fn build_case(from: &mut impl Read, to: &mut impl Write, file: &mut [u8]) ->
 }
 
 // Lends so many rows, numbers and bytes of output.
+#[inline(never)]
 fn compose_lent(
     to: &mut impl Write,
     first: &[u8],
