@@ -22,7 +22,7 @@ impl<'a> Text<'a> {
         Text { out, at: 0 }
     }
 
-    // How many bytes the text has.
+    // The place after what is put: how many bytes the text has, if it began at 0.
     #[tactic(auto, unfolding(crate::specs::Puts::place))]
     pub fn len(&self) -> usize
         ensures { result ≡ place self.now }
