@@ -26,13 +26,13 @@ use Rattle.base.specs.declared.refusal.Refusal.{Refusal}
 use Rattle.base.specs.declared.refusal.Refusal.TheVariants.{NoRoom}
 use Rattle.program.specs.Stages.{check_of}
 use Rattle.program.specs.Standing.{program_in, Standing, formed}
-use Rattle.table.specs.declared.Table.{Table}
+use Rattle.table.specs.declared.LentTable.{LentTable}
 use Rattle.table.specs.Append.{room_of}
 use Rattle.rows.specs.Table.{Stored, Exceeds}
 use Rattle.rows.specs.Stored.{exceeds-more, kept_refl}
 use Rattle.rows.specs.Making.{Drawn}
 use Rattle.writer.specs.Writes.{Writes, refused_writes}
-use Rattle.writer.specs.Finish.{Finishing, Finishes, finish-full}
+use Rattle.writer.specs.Finish.{Finishing, Finishes, finish-full, drawn-finishing, drawn-finishes}
 use Rattle.build.specs.Contract.{answer, Builds, Ready}
 use Rattle.turn.specs.Turning.{built, Building}
 
@@ -113,7 +113,7 @@ bare-is file sh n s C c =
     rw (none, ← s.shaped, c)
 
 pub building_start : (file : List ℕ) (sh : Shape) (n rows numbers : ℕ) (lent : List ℕ) → Ready file sh n rows numbers (length lent)
-    → (C : ℕ) → C ≡ cells (shape_of sh) → (s : Table) → Stored s (base C) → Building file sh n s lent n
+    → (C : ℕ) → C ≡ cells (shape_of sh) → (s : LentTable) → Stored s (base C) → Building file sh n s lent n
 building_start file sh n rows numbers lent r C c s st = record {
   standing = r.standing;
   high = omega arith;
@@ -123,7 +123,7 @@ building_start file sh n rows numbers lent r C c s st = record {
 }
 
 -- R54: no row is left for all turns.
-module _ (file : List ℕ) (sh : Shape) (n rows numbers heads : ℕ) (r : Ready file sh n rows numbers heads) {s : Table} {e : Refusal}
+module _ (file : List ℕ) (sh : Shape) (n rows numbers heads : ℕ) (r : Ready file sh n rows numbers heads) {s : LentTable} {e : Refusal}
     (size : length s.rows.now ≡ rows) (out : List ℕ) where
   pub turns-over : Exceeds s e (built file 0).tab → Writes (answer file rows numbers heads out) (Err e) out out
   unfolding transfer
@@ -137,7 +137,7 @@ module _ (file : List ℕ) (sh : Shape) (n rows numbers heads : ℕ) (r : Ready 
       let z : C ≡ cells P.shape = c ∙ ap cells r.standing.shaped in
       turns-over (exceeds-more (kept_refl s) o (rw z (ext_length (grown_ext (turns-grown P.shape 0 P.instrs)))))
 
-module _ (file : List ℕ) (sh : Shape) (n : ℕ) (s : Table) (heads : List ℕ) (b : Building file sh n s heads 0) where
+module _ (file : List ℕ) (sh : Shape) (n : ℕ) (s : LentTable) (heads : List ℕ) (b : Building file sh n s heads 0) where
   abbrev place : Standing file sh n 0
   place = b.standing
 
@@ -151,20 +151,21 @@ module _ (file : List ℕ) (sh : Shape) (n : ℕ) (s : Table) (heads : List ℕ)
         same = ap (λ k. take C (drop k heads)) (sym z) ∙ rw (← e) at (b.slots 0 (omega arith) place.low);
       }
 
-  pub finishing : (C : ℕ) → C ≡ cells (shape_of sh) → (numbers : ℕ) → room_of s ≤ numbers → Finishing (shape_of sh) (take C heads) s numbers
-  finishing C e numbers l = record {
-    made = transfer (program_in file);
-    drawn = drawn C e;
-    stands = subst (λ (x : R.Shape). Stands (cells x) (transfer (program_in file))) (sym place.shaped)
-        (transfer-stands (program_in file) (formed file sh n 0 place));
-    shaped = subst (λ (x : R.Shape). check_shape old x ≡ granted tt) (sym place.shaped)
-        (read-shape old file (program_in file) place.accepted);
-    enough = omega (arith, b.stored.held);
-  }
+  pub finishing : (C : ℕ) → C ≡ cells (shape_of sh) → (numbers : ℕ) → room_of s ≤ numbers
+      → Finishing (shape_of sh) (take C heads) s.rows.now s.state numbers
+  finishing C e numbers l = drawn-finishing (shape_of sh) (drawn C e) stands shaped numbers (omega (arith, b.stored.held))
+    where
+      stands : Stands (cells (shape_of sh)) (transfer (program_in file))
+      stands = subst (λ (x : R.Shape). Stands (cells x) (transfer (program_in file))) (sym place.shaped)
+          (transfer-stands (program_in file) (formed file sh n 0 place))
+
+      shaped : check_shape old (shape_of sh) ≡ granted tt
+      shaped = subst (λ (x : R.Shape). check_shape old x ≡ granted tt) (sym place.shaped)
+          (read-shape old file (program_in file) place.accepted)
 
   -- R54, R59: what the rules finish with is what they answer.
   pub finished : (C : ℕ) → C ≡ cells (shape_of sh) → (m numbers lent : ℕ) → length s.rows.now ≡ m → Ready file sh n m numbers lent
-      → (r : Answer ℕ) (out after : List ℕ) → Finishes (shape_of sh) (take C heads) s r out after
+      → (r : Answer ℕ) (out after : List ℕ) → Finishes (shape_of sh) (take C heads) s.rows.now s.state r out after
       → Writes (answer file m numbers lent out) r out after
   finished C e m numbers lent size w r out after g =
-      rw (answer-is file m numbers lent out sh n place w, ← size) (g (transfer (program_in file)) (drawn C e))
+      rw (answer-is file m numbers lent out sh n place w, ← size) (drawn-finishes (shape_of sh) (drawn C e) r out after g)

@@ -20,13 +20,13 @@ use base::shape::Shape;
 use program::check_program;
 use program::header::shape_at;
 use rows::node::{Node, entry_of};
-use table::{Table, room_in};
+use table::{LentTable, room_in};
 use turns::build_turns;
 use writer::write_finished;
 
 // R26: the constants and the cells, appended to an empty table one after another.
-fn put_leaves(cells: usize, table: &mut Table) -> Result<(), Refusal>
-    requires { (2 + cells ≤ 65535) × (table.old.used ≡ 0) }
+fn put_leaves(cells: usize, table: &mut LentTable) -> Result<(), Refusal>
+    requires { (2 + cells ≤ 65535) × (table.old.state.used ≡ 0) }
     ensures kept { Kept table.old table.new }
     ensures holds { Holds table.old result table.new (base cells) }
 {
@@ -51,10 +51,17 @@ fn build_program(
         (length heads.old) out.old) result out.old out.new }
 {
     let cells = shape.cells();
-    let mut table = Table::empty(rows);
+    let mut table = LentTable::empty(rows);
     put_leaves(cells, &mut table)?;
     build_turns(file, shape, n, &mut table, numbers, heads)?;
-    write_finished(shape, &heads[..cells], &table, numbers, out)
+    write_finished(
+        shape,
+        &heads[..cells],
+        table.rows(),
+        table.state,
+        numbers,
+        out,
+    )
 }
 
 // R51, R54, R55: builds the set of an accepted file. Each constant and cell has a row (10), each row that may be used a number, and

@@ -28,7 +28,7 @@ use Rattle.laws.specs.Room.{add-one-row}
 use Rattle.base.specs.Answers.{Answer, shape_of}
 use Rattle.base.specs.declared.shape.Shape.{Shape}
 use Rattle.base.specs.declared.kinds.Row as K
-use Rattle.table.specs.declared.Table.{Table}
+use Rattle.table.specs.declared.LentTable.{LentTable}
 use Rattle.rows.specs.Entries.{node_row}
 use Rattle.base.specs.declared.refusal.Refusal.{Refusal}
 use Rattle.table.specs.Append.{Kept}
@@ -205,7 +205,7 @@ module _ (first second : List ℕ) (shape : Shape) (p : Pair first second shape)
     row-place n q = q ∙ ap (λ k. spelt_row second (shape_of shape) (2 + k + j)) e
 
   -- The row as the code reads it and renumbers it.
-  module _ (numbers : List ℕ) (s : Table) (j : ℕ) (g : Carrying first second shape s numbers j) (h : j < rows_in second)
+  module _ (numbers : List ℕ) (s : LentTable) (j : ℕ) (g : Carrying first second shape s numbers j) (h : j < rows_in second)
       (n : Node) (read : node_row n ≡ spelt_row second (shape_of shape) (L + j)) where
     row_is : node_row n ≡ row j
     row_is =
@@ -241,10 +241,10 @@ module _ (first second : List ℕ) (shape : Shape) (p : Pair first second shape)
         ready = rw (new_is, ← stored-length g.stored) (new-ready j h);
       }
 
-      gives : (r : Answer K.Row) (s' : Table) → Adds s m r s' → Gives s r s' (add (M (L + j)).tab (new j))
+      gives : (r : Answer K.Row) (s' : LentTable) → Adds s m r s' → Gives s r s' (add (M (L + j)).tab (new j))
       gives r s' a = holds-add (carried-canonical (L + j) (omega (arith, size_y))) g.stored a (new j) (new-ready j h) new_is
 
-      pub carrying-more : (x : K.Row) (s' : Table) → Adds s m (Ok x) s' → Carrying first second shape s' (set numbers j x.0) (j + 1)
+      pub carrying-more : (x : K.Row) (s' : LentTable) → Adds s m (Ok x) s' → Carrying first second shape s' (set numbers j x.0) (j + 1)
       carrying-more x s' a =
           let st = step j h in
           let p = gives (Ok x) s' a in
@@ -270,7 +270,7 @@ module _ (first second : List ℕ) (shape : Shape) (p : Pair first second shape)
             ];
           })
 
-      pub carrying-full : (x : Refusal) (s' : Table) → Adds s m (Err x) s' → Exceeds s x (M (L + (j + 1))).tab
+      pub carrying-full : (x : Refusal) (s' : LentTable) → Adds s m (Err x) s' → Exceeds s x (M (L + (j + 1))).tab
       carrying-full x s' a =
           let z : j + 1 ≡ suc j = omega arith in
           rw (z, (step j h).tab) (gives (Err x) s' a)
@@ -278,7 +278,7 @@ module _ (first second : List ℕ) (shape : Shape) (p : Pair first second shape)
   -- ---- the start and the end
 
   -- Before any row of the second set, the table is that of the first.
-  pub carrying_start : (numbers : List ℕ) (s : Table) → Stored s X.tab → rows_in second ≤ length numbers
+  pub carrying_start : (numbers : List ℕ) (s : LentTable) → Stored s X.tab → rows_in second ≤ length numbers
       → Carrying first second shape s numbers 0
   carrying_start numbers s st long =
       let left = left-carried X.tab X.heads Y.tab Y.heads canon_y L (omega arith) in
@@ -298,7 +298,7 @@ module _ (first second : List ℕ) (shape : Shape) (p : Pair first second shape)
   unfolding after
   carried_all = ap (λ k. (M k).tab) (sym size_y)
 
-  module _ (numbers : List ℕ) (s : Table) (g : Carrying first second shape s numbers (rows_in second)) where
+  module _ (numbers : List ℕ) (s : LentTable) (g : Carrying first second shape s numbers (rows_in second)) where
     pub composed-holds : Stored s (composed X Y).tab
     composed-holds = rw carried_all at g.stored
 
@@ -341,7 +341,7 @@ module _ (first second : List ℕ) (shape : Shape) (p : Pair first second shape)
         ∙ sym (get_or-map (new_number first L numbers) Y.heads c 0 0 (omega (arith, heads_y, w.count)))
 
 -- No row is left for a row of the second set, so none is for all of them.
-pub carrying-over : (first second : List ℕ) (shape : Shape) {s₀ s : Table} {x : Refusal} (j : ℕ) → Kept s₀ s → j < rows_in second
+pub carrying-over : (first second : List ℕ) (shape : Shape) {s₀ s : LentTable} {x : Refusal} (j : ℕ) → Kept s₀ s → j < rows_in second
     → Exceeds s x (carried first second (leaves (shape_of shape) + (j + 1))).tab
     → Exceeds s₀ x (carried first second (leaves (shape_of shape) + rows_in second)).tab
 carrying-over first second shape j k h o = exceeds-more k o (carry-longer _ _ _ _ _ _ (omega arith))

@@ -8,16 +8,16 @@ use Rattle.rules.specs.Sets.{Carried, carry}
 use Rattle.rules.specs.SetFile.{leaves, head_at}
 use Rattle.base.specs.Answers.{Answer, shape_of}
 use Rattle.base.specs.declared.shape.Shape.{Shape}
-use Rattle.table.specs.declared.Table.{Table}
+use Rattle.table.specs.declared.LentTable.{LentTable}
 use Rattle.rows.specs.Table.{Stored, Ends}
 use Rattle.sets.specs.Spelt.{set_in, rows_in, Taken}
 
 -- An accepted file, with its shape as the code has it and the number of its rows; a table in which no row is used.
-pub record Copied (file : List ℕ) (shape : Shape) (total : ℕ) (s : Table) : Type 0 where
+pub record Copied (file : List ℕ) (shape : Shape) (total : ℕ) (s : LentTable) : Type 0 where
   pub taken : Taken file
   pub shaped : shape_of shape ≡ shape_at old file
   pub whole : total ≡ length (set_in file).tab
-  pub empty : s.used ≡ 0
+  pub empty : s.state.used ≡ 0
 
 -- R40: two accepted files with one shape, which the code has.
 pub record Pair (first second : List ℕ) (shape : Shape) : Type 0 where
@@ -47,7 +47,7 @@ abbrev pub carried : List ℕ → List ℕ → ℕ → Carried
 carried first second k = carry add (set_in first).tab (set_in first).heads (set_in second).tab (set_in second).heads k
 
 -- R34: after j operation rows what the rules have carried is stored, and their numbers are noted.
-pub record Carrying (first second : List ℕ) (shape : Shape) (s : Table) (numbers : List ℕ) (j : ℕ) : Type 0 where
+pub record Carrying (first second : List ℕ) (shape : Shape) (s : LentTable) (numbers : List ℕ) (j : ℕ) : Type 0 where
   pub pair : Pair first second shape
   pub low : j ≤ rows_in second
   pub long : rows_in second ≤ length numbers
@@ -57,7 +57,7 @@ pub record Carrying (first second : List ℕ) (shape : Shape) (s : Table) (numbe
       → get_or numbers i 0 ≡ get_or (carried first second (leaves (shape_of shape) + j)).new (leaves (shape_of shape) + i) 0
 
 -- R34, R54: carrying up to row j, or no row is left for it.
-abbrev pub Carries : List ℕ → List ℕ → Shape → Table → Answer (Unit {0}) → Table → List ℕ → ℕ → Type 0
+abbrev pub Carries : List ℕ → List ℕ → Shape → LentTable → Answer (Unit {0}) → LentTable → List ℕ → ℕ → Type 0
 Carries first second shape s r s' numbers' j = Ends s r (carried first second (leaves (shape_of shape) + j)).tab
     (λ _. Carrying first second shape s' numbers' j)
 

@@ -7,12 +7,12 @@ use Rattle.rules.specs.Shape.{cells, shape_at}
 use Rattle.rules.specs.Rows.{row_at}
 use Rattle.base.specs.Answers.{shape_of}
 use Rattle.base.specs.declared.shape.Shape.{Shape}
-use Rattle.table.specs.declared.Table.{Table}
+use Rattle.table.specs.declared.LentTable.{LentTable}
 use Rattle.table.specs.Append.{room_of}
 use Rattle.sets.specs.Spelt.{set_in, rows_in, Inside, spelt_row, sized_inside, spelt-row, spelt-length, taken_sized}
 use Rattle.carry.specs.Carrying.{Copied}
 
-module _ (file : List ℕ) (shape : Shape) (total : ℕ) (s : Table) (w : Copied file shape total s) where
+module _ (file : List ℕ) (shape : Shape) (total : ℕ) (s : LentTable) (w : Copied file shape total s) where
   size : length (set_in file).tab ≡ 2 + cells (shape_at old file) + rows_in file
   size = spelt-length file (shape_at old file) (rows_in file)
 

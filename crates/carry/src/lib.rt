@@ -18,10 +18,10 @@ use base::shape::Shape;
 use rows::adding::add;
 use rows::node::{Node, entry_of};
 use sets::read::{head_in, row_in};
-use table::Table;
+use table::LentTable;
 
 // The rows of a set file, appended to an empty table one after another. With room for all of them it does not fail.
-pub fn copy_rows(file: &[u8], shape: Shape, total: usize, table: &mut Table) -> Result<(), Refusal>
+pub fn copy_rows(file: &[u8], shape: Shape, total: usize, table: &mut LentTable) -> Result<(), Refusal>
     requires { Copied file.now shape total table.old }
     ensures room { total ≤ length table.old.rows.now → result ≡ Ok tt }
     ensures kept { Kept table.old table.new }
@@ -71,7 +71,7 @@ fn carry_row(
     second: &[u8],
     shape: Shape,
     j: usize,
-    table: &mut Table,
+    table: &mut LentTable,
     numbers: &mut [u16],
 ) -> Result<(), Refusal>
     requires { Carrying first.now second.now shape table.old numbers.old j × (j < rows_in second.now) }
@@ -90,7 +90,7 @@ pub fn carry_rows(
     first: &[u8],
     second: &[u8],
     shape: Shape,
-    table: &mut Table,
+    table: &mut LentTable,
     numbers: &mut [u16],
 ) -> Result<(), Refusal>
     requires { Carrying first.now second.now shape table.old numbers.old 0 }

@@ -18,7 +18,7 @@ use Rattle.laws.specs.After.{over}
 use Rattle.laws.specs.Choice.{each_more, each-count, each-grown, choose-grown, choose_sound, length-zip, zip-at}
 use Rattle.base.specs.Answers.{Answer}
 use Rattle.base.specs.declared.kinds.Row as K
-use Rattle.table.specs.declared.Table.{Table}
+use Rattle.table.specs.declared.LentTable.{LentTable}
 use Rattle.base.specs.declared.refusal.Refusal.{Refusal}
 use Rattle.table.specs.Append.{Kept}
 use Rattle.rows.specs.Table.{Stored, Exceeds, Addable, Adds, Gives}
@@ -30,7 +30,7 @@ use Rattle.choice.specs.Choosing.{Among, Choosable, Picks, Choosing}
 
 -- ---- four operations
 
-module _ {C : ℕ} {t : List Row} {s : Table} (f x y : K.Row) (g : Among C t s f.0 x.0 y.0) where
+module _ {C : ℕ} {t : List Row} {s : LentTable} (f x y : K.Row) (g : Among C t s f.0 x.0 y.0) where
   -- R35: NOT f, the half for x and the half for y, as the rules add them.
   abbrev N : R.Added
   N = add t (inv f.0)
@@ -86,20 +86,20 @@ module _ {C : ℕ} {t : List Row} {s : Table} (f x y : K.Row) (g : Among C t s f
   unfolding four_rows
   all_n = omega (arith, ext_length (add_extends N.tab (bin true f.0 x.0)), all_a)
 
-  pub over_n : {e : Refusal} (s' : Table) → Adds s (Not f) (Err e) s' → Exceeds s e all
+  pub over_n : {e : Refusal} (s' : LentTable) → Adds s (Not f) (Err e) s' → Exceeds s e all
   over_n s' an = exceeds-more (kept_refl s) (an.gives C t g.canonical g.stored g.low.0) all_n
 
-  module _ {n : K.Row} {s₁ : Table} (an : Adds s (Not f) (Ok n) s₁) where
+  module _ {n : K.Row} {s₁ : LentTable} (an : Adds s (Not f) (Ok n) s₁) where
     gives_n : Gives s (Ok n) s₁ N
     gives_n = an.gives C t g.canonical g.stored g.low.0
 
     pub and-addable : Addable s₁ (bin true f.0 x.0)
     and-addable = addable gives_n.0 (bin true f.0 x.0) ready_a
 
-    pub over_a : {e : Refusal} (s' : Table) → Kept s s₁ → Adds s₁ (Two true f x) (Err e) s' → Exceeds s e all
+    pub over_a : {e : Refusal} (s' : LentTable) → Kept s s₁ → Adds s₁ (Two true f x) (Err e) s' → Exceeds s e all
     over_a s' k aa = exceeds-more k (aa.gives C N.tab sound_n.canonical gives_n.0 ready_a) all_a
 
-    module _ {a : K.Row} {s₂ : Table} (aa : Adds s₁ (Two true f x) (Ok a) s₂) where
+    module _ {a : K.Row} {s₂ : LentTable} (aa : Adds s₁ (Two true f x) (Ok a) s₂) where
       gives_a : Gives s₁ (Ok a) s₂ A
       gives_a = aa.gives C N.tab sound_n.canonical gives_n.0 ready_a
 
@@ -110,13 +110,13 @@ module _ {C : ℕ} {t : List Row} {s : Table} (f x y : K.Row) (g : Among C t s f
       pub other_addable : Addable s₂ (bin true n.0 y.0)
       other_addable = rw row_b (addable gives_a.0 (bin true N.row y.0) ready_b)
 
-      adds_b : (r : Answer K.Row) (s' : Table) → Adds s₂ (Two true n y) r s' → Gives s₂ r s' B
+      adds_b : (r : Answer K.Row) (s' : LentTable) → Adds s₂ (Two true n y) r s' → Gives s₂ r s' B
       adds_b r s' ab = holds-add sound_a.canonical gives_a.0 ab (bin true N.row y.0) ready_b row_b
 
-      pub over_b : {e : Refusal} (s' : Table) → Kept s s₂ → Adds s₂ (Two true n y) (Err e) s' → Exceeds s e all
+      pub over_b : {e : Refusal} (s' : LentTable) → Kept s s₂ → Adds s₂ (Two true n y) (Err e) s' → Exceeds s e all
       over_b s' k ab = exceeds-more k (adds_b (Err _) s' ab) all_b
 
-      module _ {b : K.Row} {s₃ : Table} (ab : Adds s₂ (Two true n y) (Ok b) s₃) where
+      module _ {b : K.Row} {s₃ : LentTable} (ab : Adds s₂ (Two true n y) (Ok b) s₃) where
         gives_b : Gives s₂ (Ok b) s₃ B
         gives_b = adds_b (Ok b) s₃ ab
 
@@ -127,7 +127,7 @@ module _ {C : ℕ} {t : List Row} {s : Table} (f x y : K.Row) (g : Among C t s f
         pub halves_addable : {o : Bool} → Addable s₃ (bin o a.0 b.0)
         halves_addable {o} = rw (row_o {o = o}) (addable gives_b.0 (bin o A.row B.row) ready_o)
 
-        pub four_gives : (r : Answer K.Row) (s' : Table) → Kept s s₃ → Adds s₃ (Two false a b) r s'
+        pub four_gives : (r : Answer K.Row) (s' : LentTable) → Kept s s₃ → Adds s₃ (Two false a b) r s'
             → Gives s r s' (four_rows t f.0 x.0 y.0)
         unfolding four_rows
         four_gives r s' k ar = ends-before (add B.tab (bin false A.row B.row)).tab _ k r
@@ -135,14 +135,14 @@ module _ {C : ℕ} {t : List Row} {s : Table} (f x y : K.Row) (g : Among C t s f
 
 -- ---- one cell
 
-module _ {s : Table} {f x y : ℕ} where
+module _ {s : LentTable} {f x y : ℕ} where
   -- Equal heads are kept.
   pub choose_keeps : (r : K.Row) → x ≡ y → r.0 ≡ x → Picks choose s f x y (Ok r) s
   unfolding choose
   choose_keeps r e v = record { gives = λ C t g. rw (eq-eqb x y e) (g.stored, v) }
 
   -- Else the four operations give the head.
-  pub choose-makes : {r : Answer K.Row} {s' : Table} → (x ≡ y → ⊥) → Picks four_rows s f x y r s' → Picks choose s f x y r s'
+  pub choose-makes : {r : Answer K.Row} {s' : LentTable} → (x ≡ y → ⊥) → Picks four_rows s f x y r s' → Picks choose s f x y r s'
   unfolding choose
   choose-makes e p = record { gives = λ C t g. rw (ne_eqb x y e) (p.gives C t g) }
 
@@ -153,12 +153,12 @@ abbrev pub part : ℕ → List ℕ → Heads → ℕ → Heads
 part f y X c = each (λ u p. choose u f p.0 p.1) X.tab (take c (zip X.heads y))
 
 -- After c turns the state stands for the choice for the first c cells, and `made` has its heads, then those of X.
-pub record Chosen (C f : ℕ) (y : List ℕ) (X : Heads) (s : Table) (made : List ℕ) (c : ℕ) : Type 0 where
+pub record Chosen (C f : ℕ) (y : List ℕ) (X : Heads) (s : LentTable) (made : List ℕ) (c : ℕ) : Type 0 where
   pub canonical : Canonical C (part f y X c).tab
   pub stored : Stored s (part f y X c).tab
   pub heads : made ≡ (part f y X c).heads ++ drop c X.heads
 
-module _ {C f : ℕ} {y : List ℕ} {s₀ : Table} {was : List ℕ} (w : Choosing C f y s₀ was) where
+module _ {C f : ℕ} {y : List ℕ} {s₀ : LentTable} {was : List ℕ} (w : Choosing C f y s₀ was) where
   abbrev X : Heads
   X = w.first
 
@@ -217,7 +217,7 @@ module _ {C f : ℕ} {y : List ℕ} {s₀ : Table} {was : List ℕ} (w : Choosin
         let m = longer c in
         (omega (arith, w.low), omega (arith, w.stands.low c), omega (arith, w.second.low c))
 
-    module _ {s : Table} {made : List ℕ} (g : Chosen C f y X s made c) where
+    module _ {s : LentTable} {made : List ℕ} (g : Chosen C f y X s made c) where
       -- Up to the turn for cell c, its place has the head of X.
       split : made ≡ (P c).heads ++ hx ∷ drop (suc c) X.heads
       split = g.heads ∙ ap (λ l. (P c).heads ++ l) (drop-cons X.heads c 0 (omega (arith, w.stands.count)))
@@ -231,11 +231,11 @@ module _ {C f : ℕ} {y : List ℕ} {s₀ : Table} {was : List ℕ} (w : Choosin
       pub chosen_needs : Choosable s f (get_or made c 0) hy
       chosen_needs = record { cells = C; table = (P c).tab; among = among }
 
-      gives : (r : Answer K.Row) (s' : Table) → Picks choose s f (get_or made c 0) hy r s' → Gives s r s' Q
+      gives : (r : Answer K.Row) (s' : LentTable) → Picks choose s f (get_or made c 0) hy r s' → Gives s r s' Q
       gives r s' p = rw head-is at (p.gives C (P c).tab among)
 
       -- No row is left for cell c.
-      pub chosen_over : {e : Refusal} {s' : Table} → Kept s₀ s → Picks choose s f (get_or made c 0) hy (Err e) s'
+      pub chosen_over : {e : Refusal} {s' : LentTable} → Kept s₀ s → Picks choose s f (get_or made c 0) hy (Err e) s'
           → Exceeds s₀ e (choice X.tab f X.heads y).tab
       unfolding choice
       chosen_over {e} {s'} k p =
@@ -243,7 +243,7 @@ module _ {C f : ℕ} {y : List ℕ} {s₀ : Table} {was : List ℕ} (w : Choosin
           exceeds-more k o (part-low X.tab (zip X.heads y) (suc c))
 
       -- R35: after the turn for cell c, whose head is put in its place.
-      pub chosen_more : {r : K.Row} {s' : Table} → Picks choose s f (get_or made c 0) hy (Ok r) s'
+      pub chosen_more : {r : K.Row} {s' : LentTable} → Picks choose s f (get_or made c 0) hy (Ok r) s'
           → Chosen C f y X s' (set made c r.0) (c + 1)
       chosen_more {r} {s'} p =
           let stored : set made c r.0 ≡ ((P c).heads ++ (Q.row ∷ [])) ++ drop (suc c) X.heads =
@@ -257,7 +257,7 @@ module _ {C f : ℕ} {y : List ℕ} {s₀ : Table} {was : List ℕ} (w : Choosin
           })
 
   -- All cells: the choice.
-  pub chosen_all : {s : Table} {made : List ℕ} (c : ℕ) → Chosen C f y X s made c → C ≤ c
+  pub chosen_all : {s : LentTable} {made : List ℕ} (c : ℕ) → Chosen C f y X s made c → C ≤ c
       → Drawn s made (choice X.tab f X.heads y)
   unfolding choice
   chosen_all c g e =

@@ -10,10 +10,10 @@ use base::kinds::Row;
 use base::refusal::Refusal;
 use rows::adding::add;
 use rows::node::Node;
-use table::Table;
+use table::LentTable;
 
 // R35: four operations that give x if row f is 1, else y.
-fn four_rows(table: &mut Table, f: Row, x: Row, y: Row) -> Result<Row, Refusal>
+fn four_rows(table: &mut LentTable, f: Row, x: Row, y: Row) -> Result<Row, Refusal>
     requires { Choosable table.old f.0 x.0 y.0 }
     ensures kept { Kept table.old table.new }
     ensures picks { Picks S.four_rows table.old f.0 x.0 y.0 result table.new }
@@ -25,7 +25,7 @@ fn four_rows(table: &mut Table, f: Row, x: Row, y: Row) -> Result<Row, Refusal>
 }
 
 // R35: one cell's choice by row f of the heads x and y: equal heads are kept.
-fn choose(table: &mut Table, f: Row, x: Row, y: Row) -> Result<Row, Refusal>
+fn choose(table: &mut LentTable, f: Row, x: Row, y: Row) -> Result<Row, Refusal>
     requires { Choosable table.old f.0 x.0 y.0 }
     ensures kept { Kept table.old table.new }
     ensures picks { Picks S.choose table.old f.0 x.0 y.0 result table.new }
@@ -37,7 +37,7 @@ fn choose(table: &mut Table, f: Row, x: Row, y: Row) -> Result<Row, Refusal>
 }
 
 // R35: the choice by row f of the sets with heads `made` and y, over one table, cells in order.
-pub fn choose_heads(f: Row, y: &[u16], table: &mut Table, made: &mut [u16]) -> Result<(), Refusal>
+pub fn choose_heads(f: Row, y: &[u16], table: &mut LentTable, made: &mut [u16]) -> Result<(), Refusal>
     requires { Choosing (length made.old) f.0 y.now table.old made.old }
     ensures kept { Kept table.old table.new }
     ensures chooses { Chooses (length made.old) f.0 y.now table.old made.old result table.new made.new }

@@ -19,12 +19,12 @@ use Rattle.base.specs.Answers.{Answer, passed, shape_of, refused_by}
 use Rattle.base.specs.declared.shape.Shape.{Shape}
 use Rattle.base.specs.declared.refusal.Refusal.{Refusal}
 use Rattle.base.specs.declared.refusal.Refusal.TheVariants.{NoRoom, ShapesDiffer}
-use Rattle.table.specs.declared.Table.{Table}
+use Rattle.table.specs.declared.LentTable.{LentTable}
 use Rattle.rows.specs.Table.{Exceeds}
 use Rattle.rows.specs.Making.{Drawn}
 use Rattle.rows.specs.Stored.{stored-length, exceeds-more, kept_refl}
 use Rattle.writer.specs.Writes.{Writes, refused_writes}
-use Rattle.writer.specs.Finish.{Finishing, Finishes, finish-full}
+use Rattle.writer.specs.Finish.{Finishing, Finishes, finish-full, drawn-finishing, drawn-finishes}
 use Rattle.sets.specs.Spelt.{set_in, rows_in, Taken, spelt-shape, spelt-length, taken-read, taken_proper}
 use Rattle.compose.specs.declared.Blame.TheVariants.{First, Second, Neither}
 use Rattle.carry.specs.Carrying.{Pair, Moving, carried, new_heads}
@@ -165,7 +165,7 @@ module _ (first second : List ℕ) (shape : Shape) (pair : Pair first second sha
       answer-is first second rows numbers out pair.one pair.two pair.same r ∙ ap (λ sh. finish old sh rows (length out) Z) shape_is
 
   -- R54: no row is left, for the first set's rows or for those that are carried.
-  module _ {s : Table} {e : Refusal} (rows numbers : ℕ) (size : length s.rows.now ≡ rows) (r : Ready first second rows numbers) where
+  module _ {s : LentTable} {e : Refusal} (rows numbers : ℕ) (size : length s.rows.now ≡ rows) (r : Ready first second rows numbers) where
     pub composed-full : Exceeds s e Z.tab → (out : List ℕ) → Writes (answer first second rows numbers out) (Err e) out out
     composed-full o out = rw (finish-is rows numbers out r, ← size) (finish-full (shape_of shape) Z out o)
 
@@ -176,7 +176,7 @@ module _ (first second : List ℕ) (shape : Shape) (pair : Pair first second sha
         → Writes (answer first second rows numbers out) (Err e) out out
     carried-full o = composed-full (rw (carried_all first second shape pair) at o)
 
-module _ (first second : List ℕ) (shape : Shape) (s : Table) (numbers : List ℕ) (f : Finished first second shape s numbers) where
+module _ (first second : List ℕ) (shape : Shape) (s : LentTable) (numbers : List ℕ) (f : Finished first second shape s numbers) where
   pub moving : (n : ℕ) → n ≡ cells (shape_of shape) → Moving first second shape numbers n
   moving n e = record { pair = f.carrying.pair; long = f.carrying.long; count = e }
 
@@ -192,23 +192,18 @@ module _ (first second : List ℕ) (shape : Shape) (s : Table) (numbers : List �
       same = e ∙ heads-moved first second shape f.carrying.pair numbers s f.carrying;
     }
 
-    pub finishing : Finishing (shape_of shape) heads s (length numbers)
-    finishing = record {
-      made = composed (set_in first) (set_in second);
-      drawn = drawn;
-      stands = stands first second shape f.carrying.pair;
-      shaped = shape-checked first second shape f.carrying.pair;
-      enough = omega (
-        arith,
-        stored-length drawn.stored,
-        composed-few first second shape f.carrying.pair numbers s f.carrying,
-        f.ready.numbers_lent,
-      );
-    }
+    pub finishing : Finishing (shape_of shape) heads s.rows.now s.state (length numbers)
+    finishing = drawn-finishing (shape_of shape) drawn (stands first second shape f.carrying.pair)
+        (shape-checked first second shape f.carrying.pair) (length numbers) (omega (
+          arith,
+          stored-length drawn.stored,
+          composed-few first second shape f.carrying.pair numbers s f.carrying,
+          f.ready.numbers_lent,
+        ))
 
     -- R54, R59: what the rules finish with is what they answer.
-    pub finished : (r : Answer ℕ) (out after : List ℕ) → Finishes (shape_of shape) heads s r out after
+    pub finished : (r : Answer ℕ) (out after : List ℕ) → Finishes (shape_of shape) heads s.rows.now s.state r out after
         → Writes (answer first second (length s.rows.now) (length numbers) out) r out after
     finished r out after w =
         rw (finish-is first second shape f.carrying.pair (length s.rows.now) (length numbers) out f.ready)
-        (w (composed (set_in first) (set_in second)) drawn)
+        (drawn-finishes (shape_of shape) drawn r out after w)

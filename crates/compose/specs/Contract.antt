@@ -7,7 +7,7 @@ use Rattle.rules.specs.Operations.{compose, output_after, Blamed, firstFile, sec
 use Rattle.base.specs.Answers.{refused_by}
 use Rattle.base.specs.Refusals.{refusal_of, refusal_back}
 use Rattle.base.specs.declared.shape.Shape.{Shape}
-use Rattle.table.specs.declared.Table.{Table}
+use Rattle.table.specs.declared.LentTable.{LentTable}
 use Rattle.writer.specs.Writes.{length_of}
 use Rattle.sets.specs.Spelt.{set_in, rows_in}
 use Rattle.compose.specs.declared.Blame.{Blame}
@@ -54,7 +54,7 @@ pub record Pairs (first second : List ℕ) (shape : Shape) (total rows numbers :
   pub ready : Ready first second rows numbers
 
 -- All rows of the second set have been carried.
-pub record Finished (first second : List ℕ) (shape : Shape) (s : Table) (numbers : List ℕ) : Type 0 where
+pub record Finished (first second : List ℕ) (shape : Shape) (s : LentTable) (numbers : List ℕ) : Type 0 where
   pub carrying : Carrying first second shape s numbers (rows_in second)
   pub ready : Ready first second (length s.rows.now) (length numbers)
 

@@ -12,7 +12,7 @@ use base::refusal::Refusal;
 use base::shape::Shape;
 use carry::{carry_rows, copy_rows, move_heads};
 use program::header::shape_at;
-use table::Table;
+use table::LentTable;
 use writer::write_finished;
 
 // R40: whether two shapes are the same.
@@ -27,7 +27,7 @@ fn write_moved(
     first: &[u8],
     second: &[u8],
     shape: Shape,
-    table: &Table,
+    table: &LentTable,
     numbers: &mut [u16],
     heads: &mut [u16],
     out: &mut [u8],
@@ -38,7 +38,7 @@ fn write_moved(
         (length numbers.old) out.old) result out.old out.new }
 {
     move_heads(first, second, shape, numbers, heads);
-    write_finished(shape, heads, table, numbers, out)
+    write_finished(shape, heads, table.rows, table.state, numbers, out)
 }
 
 // Lends the heads: a shape has at most 217 cells (R1, R2).
@@ -46,7 +46,7 @@ fn write_composed(
     first: &[u8],
     second: &[u8],
     shape: Shape,
-    table: &Table,
+    table: &LentTable,
     numbers: &mut [u16],
     out: &mut [u8],
 ) -> Result<usize, Refusal>
@@ -81,7 +81,7 @@ fn compose_pair(
     ensures { Writes (answer first.now second.now (length rows.old)
         (length numbers.old) out.old) result out.old out.new }
 {
-    let mut table = Table::empty(rows);
+    let mut table = LentTable::empty(rows);
     copy_rows(first, shape, total, &mut table)?;
     carry_rows(first, second, shape, &mut table, numbers)?;
     write_composed(first, second, shape, &table, numbers, out)

@@ -23,7 +23,7 @@ use Rattle.reader.specs.declared.code.VariableCode.{VariableCode}
 use Rattle.reader.specs.declared.code.VariableCode.TheVariants.{Res, Fedge}
 use Rattle.reader.specs.Codes.{alone_of, on_expr, on_variable}
 use Rattle.program.specs.Reading.{Reads, Legible}
-use Rattle.table.specs.declared.Table.{Table}
+use Rattle.table.specs.declared.LentTable.{LentTable}
 use Rattle.base.specs.declared.refusal.Refusal.{Refusal}
 use Rattle.table.specs.Append.{Kept}
 use Rattle.rows.specs.Table.{Addable, Adds}
@@ -38,7 +38,7 @@ use Rattle.own.specs.Changes.{Inside, place_of, main_of}
 use Rattle.own.specs.ChangeLaws.{put-here, stack-below, pushed-here}
 
 -- A shape, and a table of its cells that is stored.
-pub record Given (sh : Shape) (s : Table) : Type 0 where
+pub record Given (sh : Shape) (s : LentTable) : Type 0 where
   pub inside : Inside sh
   pub opened : Open (cells (shape_of sh)) s
 
@@ -76,30 +76,30 @@ module _ (sh : R.Shape) (code : AloneCode) where
 
 -- ---- operations over cells
 
-module _ {C : ℕ} {s : Table} (c : ℕ) (x : K.Row) (q : x.0 ≡ 2 + c) where
+module _ {C : ℕ} {s : LentTable} (c : ℕ) (x : K.Row) (q : x.0 ≡ 2 + c) where
   -- R26: the row of a cell.
   pub made-cell : Made C s (cell c) (Ok x) s
   made-cell = made-simple C s (cell c) tt x (omega arith)
 
   module _ (h : c < C) where
-    pub made_opposite : {r : Answer K.Row} {s' : Table} → Adds s (Not x) r s' → Made C s (neg (cell c)) r s'
+    pub made_opposite : {r : Answer K.Row} {s' : LentTable} → Adds s (Not x) r s' → Made C s (neg (cell c)) r s'
     made_opposite d = made-not h made-cell (kept_refl s) d
 
-module _ {C : ℕ} {s : Table} (c : ℕ) (x : K.Row) (q : x.0 ≡ 2 + c) (h : c < C)
+module _ {C : ℕ} {s : LentTable} (c : ℕ) (x : K.Row) (q : x.0 ≡ 2 + c) (h : c < C)
     (e : ℕ) (y : K.Row) (p : y.0 ≡ 2 + e) (g : e < C) (o : Bool) where
-  pub made_cells : {r : Answer K.Row} {s' : Table} → Adds s (Two o x y) r s' → Made C s (E.bin o (cell c) (cell e)) r s'
+  pub made_cells : {r : Answer K.Row} {s' : LentTable} → Adds s (Two o x y) r s' → Made C s (E.bin o (cell c) (cell e)) r s'
   made_cells d = made-two h (made-cell c x q) g (made-cell e y p) o (kept_refl s) d
 
 -- ---- instructions
 
-module _ {sh : Shape} {s : Table} (g : Given sh s) where
+module _ {sh : Shape} {s : LentTable} (g : Given sh s) where
   abbrev S : R.Shape
   S = shape_of sh
 
   abbrev C : ℕ
   C = cells S
 
-  abbrev Makes : Plain → Answer K.Row → Table → Type 0
+  abbrev Makes : Plain → Answer K.Row → LentTable → Type 0
   Makes p r s' = Made C s (main_of S p) r s'
 
   pub row-stands : (p : Plain) (r : K.Row) → MainRow S p r.0 → Makes p (Ok r) s
@@ -116,18 +116,18 @@ module _ {sh : Shape} {s : Table} (g : Given sh s) where
     made_flag : Made C s (cell (flag S)) (Ok x) s
     made_flag = made-cell (flag S) x flag-row
 
-    pub row-not : (r : Answer K.Row) (s' : Table) → Adds s (Not x) r s' → Makes NOT r s'
+    pub row-not : (r : Answer K.Row) (s' : LentTable) → Adds s (Not x) r s' → Makes NOT r s'
     unfolding effect place_of
     row-not r s' d = rw put-here (made_opposite (flag S) x flag-row in_flag d)
 
     -- The row y of the top of the stack.
     module _ (y : K.Row) (p : y.0 ≡ 2 + (f + 1)) where
-      pub row_tand : (r : Answer K.Row) (s' : Table) → Adds s (Two true x y) r s' → Makes TAND r s'
+      pub row_tand : (r : Answer K.Row) (s' : LentTable) → Adds s (Two true x y) r s' → Makes TAND r s'
       unfolding effect place_of
       row_tand r s' d = rw put-here
           (made_cells (flag S) x flag-row in_flag (flag S + 1) y (omega arith) (omega (arith, g.inside.deep)) true d)
 
-      pub row_tor : (r : Answer K.Row) (s' : Table) → Adds s (Two false x y) r s' → Makes TOR r s'
+      pub row_tor : (r : Answer K.Row) (s' : LentTable) → Adds s (Two false x y) r s' → Makes TOR r s'
       unfolding effect place_of
       row_tor r s' d = rw put-here
           (made_cells (flag S) x flag-row in_flag (flag S + 1) y (omega arith) (omega (arith, g.inside.deep)) false d)
@@ -141,46 +141,46 @@ module _ {sh : Shape} {s : Table} (g : Given sh s) where
       unfolding effect place_of
       row-store = rw put-here made_flag
 
-      pub row-set : (r : Answer K.Row) (s' : Table) → Adds s (Two false x y) r s' → Makes (SET b) r s'
+      pub row-set : (r : Answer K.Row) (s' : LentTable) → Adds s (Two false x y) r s' → Makes (SET b) r s'
       unfolding effect place_of
       row-set r s' d = rw put-here (made_cells (flag S) x flag-row in_flag b y p in_variable false d)
 
       -- NOT of the variable, for which no row is left, or after which there is AND.
-      pub rise_full : (e : Refusal) (s' : Table) → Adds s (Not y) (Err e) s' → Makes (REDGE b) (Err e) s'
+      pub rise_full : (e : Refusal) (s' : LentTable) → Adds s (Not y) (Err e) s' → Makes (REDGE b) (Err e) s'
       unfolding effect place_of
       rise_full e s' m = rw put-here (full-second in_flag made_flag (kept_refl s) true (made_opposite b y p in_variable m))
 
-      module _ {n : K.Row} {s₁ : Table} (m : Adds s (Not y) (Ok n) s₁) where
+      module _ {n : K.Row} {s₁ : LentTable} (m : Adds s (Not y) (Ok n) s₁) where
         pub rise_addable : (o : Bool) → Addable s₁ (bin o x.0 n.0)
         rise_addable o = two-addable in_flag made_flag in_variable (made_opposite b y p in_variable m) o g.opened
 
-        pub row_rise : Kept s s₁ → (r : Answer K.Row) (s' : Table) → Adds s₁ (Two true x n) r s' → Makes (REDGE b) r s'
+        pub row_rise : Kept s s₁ → (r : Answer K.Row) (s' : LentTable) → Adds s₁ (Two true x n) r s' → Makes (REDGE b) r s'
         unfolding effect place_of
         row_rise k r s' d = rw put-here
             (made-two in_flag made_flag in_variable (made_opposite b y p in_variable m) true k d)
 
       -- The same with NOT of the flag.
       module _ (code : VariableCode) (is : (code ≡ Res) ⊎ (code ≡ Fedge)) where
-        fall-is : {r : Answer K.Row} {s' : Table} → Made C s (E.bin true (neg (cell (flag S))) (cell b)) r s'
+        fall-is : {r : Answer K.Row} {s' : LentTable} → Made C s (E.bin true (neg (cell (flag S))) (cell b)) r s'
             → Makes (on_variable code b) r s'
         unfolding effect place_of
         fall-is m = elim is [ inl z ↦ rw (z, put-here) m | inr z ↦ rw (z, put-here) m ]
 
-        pub fall_full : (e : Refusal) (s' : Table) → Adds s (Not x) (Err e) s' → Makes (on_variable code b) (Err e) s'
+        pub fall_full : (e : Refusal) (s' : LentTable) → Adds s (Not x) (Err e) s' → Makes (on_variable code b) (Err e) s'
         fall_full e s' m = fall-is (full-two (made_opposite (flag S) x flag-row in_flag m) true (cell b))
 
-        module _ {n : K.Row} {s₁ : Table} (m : Adds s (Not x) (Ok n) s₁) where
+        module _ {n : K.Row} {s₁ : LentTable} (m : Adds s (Not x) (Ok n) s₁) where
           pub fall_addable : (o : Bool) → Addable s₁ (bin o n.0 y.0)
           fall_addable o = two-addable in_flag (made_opposite (flag S) x flag-row in_flag m) in_variable (made-cell b y p) o g.opened
 
-          pub row_fall : Kept s s₁ → (r : Answer K.Row) (s' : Table) → Adds s₁ (Two true n y) r s' → Makes (on_variable code b) r s'
+          pub row_fall : Kept s s₁ → (r : Answer K.Row) (s' : LentTable) → Adds s₁ (Two true n y) r s' → Makes (on_variable code b) r s'
           row_fall k r s' d = fall-is
               (made-two in_flag (made_opposite (flag S) x flag-row in_flag m) in_variable (made-cell b y p) true k d)
 
     -- R17, R19: the expression that stands at a place.
     module _ (file : List ℕ) (stop at v : ℕ) (k : v ≡ vars S) (legible : Legible file (vars S) stop at) where
       -- No row is left for it.
-      pub value_full : (code : ValueCode) {e : Refusal} {s' : Table} → Unspelt file v stop at s e s' → (y : Read Exp)
+      pub value_full : (code : ValueCode) {e : Refusal} {s' : LentTable} → Unspelt file v stop at s e s' → (y : Read Exp)
           → Reads file (vars S) stop at y → Makes (on_expr code y.got) (Err e) s'
       unfolding effect place_of
       value_full code {e} {s'} w y h = go code
@@ -194,7 +194,7 @@ module _ {sh : Shape} {s : Table} (g : Given sh s) where
           go Or = rw put-here (full-second in_flag made_flag (kept_refl s) false full)
           go Epush = rw pushed-here full
 
-      module _ {r : Grown} {s₁ : Table} (w : Spelt file v stop at s r s₁) where
+      module _ {r : Grown} {s₁ : LentTable} (w : Spelt file v stop at s r s₁) where
         value_made : (y : Read Exp) → Reads file (vars S) stop at y → Made C s y.got (Ok r.row) s₁
         value_made y h = (rw k at w).made C (omega arith) y h
 
@@ -202,16 +202,16 @@ module _ {sh : Shape} {s : Table} (g : Given sh s) where
         value-addable o = two-addable in_flag made_flag
             (reads_over C (omega arith) legible.reads) (value_made legible.what legible.reads) o g.opened
 
-        two_made : (o : Bool) → Kept s s₁ → {r' : Answer K.Row} {s' : Table} → Adds s₁ (Two o x r.row) r' s' → (y : Read Exp)
+        two_made : (o : Bool) → Kept s s₁ → {r' : Answer K.Row} {s' : LentTable} → Adds s₁ (Two o x r.row) r' s' → (y : Read Exp)
             → Reads file (vars S) stop at y → Made C s (E.bin o (cell (flag S)) y.got) r' s'
         two_made o l d y h = made-two in_flag made_flag (reads_over C (omega arith) h) (value_made y h) o l d
 
-        pub row-and : Kept s s₁ → (r' : Answer K.Row) (s' : Table) → Adds s₁ (Two true x r.row) r' s' → (y : Read Exp)
+        pub row-and : Kept s s₁ → (r' : Answer K.Row) (s' : LentTable) → Adds s₁ (Two true x r.row) r' s' → (y : Read Exp)
             → Reads file (vars S) stop at y → Makes (AND y.got) r' s'
         unfolding effect place_of
         row-and l r' s' d y h = rw put-here (two_made true l d y h)
 
-        pub row-or : Kept s s₁ → (r' : Answer K.Row) (s' : Table) → Adds s₁ (Two false x r.row) r' s' → (y : Read Exp)
+        pub row-or : Kept s s₁ → (r' : Answer K.Row) (s' : LentTable) → Adds s₁ (Two false x r.row) r' s' → (y : Read Exp)
             → Reads file (vars S) stop at y → Makes (OR y.got) r' s'
         unfolding effect place_of
         row-or l r' s' d y h = rw put-here (two_made false l d y h)

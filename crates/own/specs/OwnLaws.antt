@@ -16,7 +16,7 @@ use Rattle.laws.specs.Lists.{length_from, get_or-map-from}
 use Rattle.laws.specs.Own.{Simple, simple_row, own-one}
 use Rattle.base.specs.declared.kinds.Row as K
 use Rattle.base.specs.declared.refusal.Refusal.{Refusal}
-use Rattle.table.specs.declared.Table.{Table}
+use Rattle.table.specs.declared.LentTable.{LentTable}
 use Rattle.rows.specs.Table.{Stored, Exceeds}
 use Rattle.own.specs.declared.heads.Change.{Change}
 use Rattle.spell.specs.Made.{Made}
@@ -68,13 +68,13 @@ module _ (sh : R.Shape) (p : Plain) (x : Change) (g : Changes sh p x) where
       = λ c n. rw (g.rest c (λ q. n (q ∙ g.place))) (rest-simple sh x c) in
       own-one t sh p (place_of sh p) (omega (arith, g.main, g.place)) simple
 
-  pub own-drawn : {s s' : Table} {a : K.Row} → Made (cells sh) s (main_of sh p) (Ok a) s' → (made : List ℕ)
+  pub own-drawn : {s s' : LentTable} {a : K.Row} → Made (cells sh) s (main_of sh p) (Ok a) s' → (made : List ℕ)
       → made ≡ changed sh x a.0 → Owns sh p s (Ok tt) s' made
   own-drawn {a = a} m made e t w h =
       let z = m.gives t w h in
       rw (own-is t) (record { stored = z.0; same = e ∙ heads-changed a.0 ∙ rw (g.place, z.1) })
 
   -- No row is left for it.
-  pub own-full : {s s' : Table} {e : Refusal} → Made (cells sh) s (main_of sh p) (Err e) s' → (t : List Row) → Canonical (cells sh) t
+  pub own-full : {s s' : LentTable} {e : Refusal} → Made (cells sh) s (main_of sh p) (Err e) s' → (t : List Row) → Canonical (cells sh) t
       → Stored s t → Exceeds s e (own t sh p).tab
   own-full m t w h = rw (own-is t) (m.gives t w h)

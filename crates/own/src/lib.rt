@@ -19,13 +19,13 @@ use base::kinds::Cell;
 use base::refusal::Refusal;
 use base::shape::Shape;
 use reader::code::{AloneCode, ValueCode, VariableCode};
-use table::Table;
+use table::LentTable;
 
 // R37: the own set of an instruction that stands alone, over a table: its row is added, and the heads are made. END's is INIT's.
 pub fn own_alone(
     shape: Shape,
     code: AloneCode,
-    table: &mut Table,
+    table: &mut LentTable,
     made: &mut [u16],
 ) -> Result<(), Refusal>
     requires { Owning shape table.old made.old }
@@ -44,7 +44,7 @@ pub fn own_value(
     shape: Shape,
     code: ValueCode,
     at: usize,
-    table: &mut Table,
+    table: &mut LentTable,
     made: &mut [u16],
 ) -> Result<(), Refusal>
     requires owning { Owning shape table.old made.old }
@@ -64,7 +64,7 @@ pub fn own_variable(
     shape: Shape,
     code: VariableCode,
     b: Cell,
-    table: &mut Table,
+    table: &mut LentTable,
     made: &mut [u16],
 ) -> Result<(), Refusal>
     requires owning { Owning shape table.old made.old }

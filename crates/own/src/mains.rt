@@ -17,10 +17,10 @@ use reader::code::{AloneCode, ValueCode, VariableCode};
 use rows::adding::add;
 use rows::node::Node;
 use spell::expression::add_expression;
-use table::Table;
+use table::LentTable;
 
 // R17, R19: adds the main row of an instruction that stands alone; END's is INIT's.
-pub fn row_alone(shape: Shape, code: AloneCode, table: &mut Table) -> Result<Row, Refusal>
+pub fn row_alone(shape: Shape, code: AloneCode, table: &mut LentTable) -> Result<Row, Refusal>
     requires { Given shape table.old }
     ensures kept { Kept table.old table.new }
     ensures made { Made (cells (shape_of shape)) table.old (main_of (shape_of shape) (alone_of code)) result table.new }
@@ -45,7 +45,7 @@ pub fn row_value(
     shape: Shape,
     code: ValueCode,
     at: usize,
-    table: &mut Table,
+    table: &mut LentTable,
 ) -> Result<Row, Refusal>
     requires given { Given shape table.old }
     requires expression { (at ≤ length file.now) × Legible file.now (vars (shape_of shape)) (at + 64) at }
@@ -68,7 +68,7 @@ pub fn row_variable(
     shape: Shape,
     code: VariableCode,
     b: Cell,
-    table: &mut Table,
+    table: &mut LentTable,
 ) -> Result<Row, Refusal>
     requires given { Given shape table.old }
     requires variable { b.0 < vars (shape_of shape) }

@@ -15,7 +15,7 @@ use Rattle.laws.specs.After.{Stage, leaf-own, carry-grown, carry-size, snoc_old,
 use Rattle.base.specs.Answers.{Answer}
 use Rattle.base.specs.declared.kinds.Row as K
 use Rattle.base.specs.declared.refusal.Refusal.{Refusal}
-use Rattle.table.specs.declared.Table.{Table}
+use Rattle.table.specs.declared.LentTable.{LentTable}
 use Rattle.rows.specs.Entries.{node_row, row_of_entry}
 use Rattle.table.specs.Append.{Kept}
 use Rattle.rows.specs.Table.{Stored, Exceeds, Addable, Adds, Gives}
@@ -28,7 +28,7 @@ use Rattle.rewrite.specs.Carrying.{Both, carried, Carrying, Fits, Puts, Turn, St
 -- ---- one row
 
 -- What a row that can be carried needs, and what carrying it leaves, for each form of it.
-module _ (n : Node) (x : List ℕ) (s : Table) (numbers : List ℕ) (fits : Fits x s numbers (node_row n)) where
+module _ (n : Node) (x : List ℕ) (s : LentTable) (numbers : List ℕ) (fits : Fits x s numbers (node_row n)) where
   pub fits_not : (a : K.Row) → n ≡ Not a → Fits x s numbers (inv a.0)
   fits_not a e = rw e at fits
 
@@ -42,14 +42,14 @@ module _ (n : Node) (x : List ℕ) (s : Table) (numbers : List ℕ) (fits : Fits
       → Addable s (bin o m.0 k.0)
   two-addable o a b m k e q r = rw (q, r) (fits-two o a b e).2
 
-  pub puts_not : (a m : K.Row) → n ≡ Not a → m.0 ≡ get_or numbers a.0 0 → (v : Answer K.Row) (s' : Table)
+  pub puts_not : (a m : K.Row) → n ≡ Not a → m.0 ≡ get_or numbers a.0 0 → (v : Answer K.Row) (s' : LentTable)
       → Adds s (Not m) v s' → Puts x s numbers (node_row n) v s'
   puts_not a m e q v s' z C t w st =
       let g = z.gives C t w st (rw (stored-length st) (not-addable a m e q).ready) in
       rw e (rw q at g)
 
   pub puts_two : (o : Bool) (a b m k : K.Row) → n ≡ Two o a b → m.0 ≡ get_or numbers a.0 0 → k.0 ≡ get_or numbers b.0 0
-      → (v : Answer K.Row) (s' : Table) → Adds s (Two o m k) v s' → Puts x s numbers (node_row n) v s'
+      → (v : Answer K.Row) (s' : LentTable) → Adds s (Two o m k) v s' → Puts x s numbers (node_row n) v s'
   puts_two o a b m k e q r v s' z C t w st =
       let g = z.gives C t w st (rw (stored-length st) (two-addable o a b m k e q r).ready) in
       rw e (rw (q, r) at g)
@@ -64,7 +64,7 @@ one_agrees x m numbers k same (inv a) h = ap (λ c. add m.tab (inv c)) (same a h
 one_agrees x m numbers k same (bin o a b) h =
     ap₂ {C = Added} (λ c d. add m.tab (bin o c d)) (same a h.0) (same b h.1)
 
-module _ {x : List ℕ} (b : Both x) (s : Table) (numbers : List ℕ) (k : ℕ) (g : Carrying b s numbers k)
+module _ {x : List ℕ} (b : Both x) (s : LentTable) (numbers : List ℕ) (k : ℕ) (g : Carrying b s numbers k)
     (h : k < length b.tab) where
   abbrev M : ℕ → Carried
   M i = carried b i
@@ -85,7 +85,7 @@ module _ {x : List ℕ} (b : Both x) (s : Table) (numbers : List ℕ) (k : ℕ) 
   below = canonical-below b.one.canonical k h
 
   -- After the row, which got the number a.
-  next : (s' : Table) (numbers' : List ℕ) (a : ℕ) → Stored s' (M (suc k)).tab
+  next : (s' : LentTable) (numbers' : List ℕ) (a : ℕ) → Stored s' (M (suc k)).tab
       → length numbers' ≡ length numbers → ((i : ℕ) → (i ≡ k → ⊥) → get_or numbers' i 0 ≡ get_or numbers i 0)
       → get_or numbers' k 0 ≡ a → (M (suc k)).new ≡ (M k).new ++ (a ∷ []) → Carrying b s' numbers' (k + 1)
   next s' numbers' a stored long others one new =
@@ -103,7 +103,7 @@ module _ {x : List ℕ} (b : Both x) (s : Table) (numbers : List ℕ) (k : ℕ) 
       })
 
   -- The next row is one of those used.
-  used : k < s.used
+  used : k < s.state.used
   used = omega (arith, stored-length g.stored, ext_length (grown_ext (carry-grown b.tab x b.tab b.second k)))
 
   pub turn-held : k < length s.rows.now
@@ -124,7 +124,7 @@ module _ {x : List ℕ} (b : Both x) (s : Table) (numbers : List ℕ) (k : ℕ) 
         ∙ ext_row (grown_ext (carry-grown b.tab x b.tab b.second k)) k h
 
     -- A number noted is a row that is used.
-    number-low : (a : ℕ) → a < k → get_or numbers a 0 < s.used
+    number-low : (a : ℕ) → a < k → get_or numbers a 0 < s.state.used
     number-low a l = omega (arith, g.noted a l, stage.low a, stored-length g.stored)
 
     fits-row : (r : Row) → row ≡ r → Below k r → Fits x s numbers r
@@ -147,13 +147,13 @@ module _ {x : List ℕ} (b : Both x) (s : Table) (numbers : List ℕ) (k : ℕ) 
       reached : reaches b.tab b.second k ≡ true
       reached = not-false _ (sym (g.marked k (omega arith) h) ∙ ne_eqb (get_or numbers k 0) 0 e)
 
-      gives : (v : Answer K.Row) (s' : Table) → Puts x s numbers (node_row n) v s' → Gives s v s' (carry_one add x (M k) row)
+      gives : (v : Answer K.Row) (s' : LentTable) → Puts x s numbers (node_row n) v s' → Gives s v s' (carry_one add x (M k) row)
       gives v s' z =
           let one : carry_one add x (record { tab = (M k).tab; new = numbers }) (node_row n) ≡ carry_one add x (M k) row
           = ap (carry_one add x (record { tab = (M k).tab; new = numbers })) row_is ∙ one_agrees x (M k) numbers k g.noted row below in
           rw one at (z b.width (M k).tab stage.canonical g.stored)
 
-      pub turn-some : (v : K.Row) (s' : Table) → Puts x s numbers (node_row n) (Ok v) s' → Carrying b s' (set numbers k v.0) (k + 1)
+      pub turn-some : (v : K.Row) (s' : LentTable) → Puts x s numbers (node_row n) (Ok v) s' → Carrying b s' (set numbers k v.0) (k + 1)
       unfolding carry
       turn-some v s' z =
           let p = gives (Ok v) s' z in
@@ -161,23 +161,23 @@ module _ {x : List ℕ} (b : Both x) (s : Table) (numbers : List ℕ) (k : ℕ) 
           (length-set numbers k v.0) (λ i q. get_or-set_other numbers k i v.0 0 q)
           (get_or-set_same numbers k v.0 0 (omega (arith, g.long)) ∙ p.1) (rw reached)
 
-      pub turn-full : (a : Refusal) (s' : Table) → Puts x s numbers (node_row n) (Err a) s' → Exceeds s a (carried b (k + 1)).tab
+      pub turn-full : (a : Refusal) (s' : LentTable) → Puts x s numbers (node_row n) (Err a) s' → Exceeds s a (carried b (k + 1)).tab
       unfolding carry
       turn-full a s' z = rw (add-one, reached) (gives (Err a) s' z)
 
 -- ---- the rows, one by one
 
 -- The rows of the table are those that are used before any row is carried.
-pub start_size : {x : List ℕ} {s : Table} {numbers : List ℕ} (w : Start x s numbers) → length w.both.tab ≡ s.used
+pub start_size : {x : List ℕ} {s : LentTable} {numbers : List ℕ} (w : Start x s numbers) → length w.both.tab ≡ s.state.used
 unfolding carry
 start_size w = stored-length w.state.stored
 
-module _ {x : List ℕ} {s₀ s : Table} {numbers₀ numbers : List ℕ} {k : ℕ} (w : Start x s₀ numbers₀) (g : Carrying w.both s numbers k) where
+module _ {x : List ℕ} {s₀ s : LentTable} {numbers₀ numbers : List ℕ} {k : ℕ} (w : Start x s₀ numbers₀) (g : Carrying w.both s numbers k) where
   -- The next row can be carried.
-  abbrev pub carries_turn : k < s₀.used → Turn x s numbers k
+  abbrev pub carries_turn : k < s₀.state.used → Turn x s numbers k
   carries_turn h = record { both = w.both; state = g; more = omega (arith, start_size w) }
 
   -- No row is left for it.
-  pub carries_over : {e : Refusal} → Kept s₀ s → k < s₀.used → Exceeds s e (carried w.both (k + 1)).tab
-      → Exceeds s₀ e (carried w.both s₀.used).tab
-  carries_over l h o = exceeds-more l o (carry-longer _ _ _ _ (k + 1) s₀.used (omega arith))
+  pub carries_over : {e : Refusal} → Kept s₀ s → k < s₀.state.used → Exceeds s e (carried w.both (k + 1)).tab
+      → Exceeds s₀ e (carried w.both s₀.state.used).tab
+  carries_over l h o = exceeds-more l o (carry-longer _ _ _ _ (k + 1) s₀.state.used (omega arith))

@@ -6,12 +6,12 @@ use Rattle.rules.specs.Shape.{Shape, cells, check_shape}
 use Rattle.rules.specs.Sets.{Heads, after}
 use Rattle.laws.specs.After.{Stands, over}
 use Rattle.base.specs.Answers.{Answer}
-use Rattle.table.specs.declared.Table.{Table}
+use Rattle.table.specs.declared.LentTable.{LentTable}
 use Rattle.table.specs.Append.{room_of}
 use Rattle.rows.specs.Making.{Drawn, Draws}
 
 -- Heads X of the rules that `made` stands for, and y over the same table; a number for each row that may be used.
-pub record Following (sh : Shape) (y : List ℕ) (s : Table) (numbers : ℕ) (made : List ℕ) : Type 0 where
+pub record Following (sh : Shape) (y : List ℕ) (s : LentTable) (numbers : ℕ) (made : List ℕ) : Type 0 where
   pub first : Heads
   pub drawn : Drawn s made first
   pub stands : Stands (cells sh) first
@@ -21,6 +21,6 @@ pub record Following (sh : Shape) (y : List ℕ) (s : Table) (numbers : ℕ) (ma
   pub room : room_of s ≤ numbers
 
 -- R34: what is left stands for y after any heads that `made` stood for.
-abbrev pub Follows : Shape → List ℕ → Table → ℕ → List ℕ → Answer (Unit {0}) → Table → List ℕ → Type 0
+abbrev pub Follows : Shape → List ℕ → LentTable → ℕ → List ℕ → Answer (Unit {0}) → LentTable → List ℕ → Type 0
 Follows sh y s numbers made r s' made' = (w : Following sh y s numbers made)
     → Draws s r s' made' (after w.first.tab w.first.heads w.first.tab y)

@@ -9,7 +9,7 @@ use Rattle.rules.specs.Sets.{Heads, carry, after}
 use Rattle.laws.specs.Lists.{map_ext}
 use Rattle.laws.specs.After.{Stands, over}
 use Rattle.base.specs.declared.refusal.Refusal.{Refusal}
-use Rattle.table.specs.declared.Table.{Table}
+use Rattle.table.specs.declared.LentTable.{LentTable}
 use Rattle.rows.specs.Entries.{table_in}
 use Rattle.rows.specs.Table.{Exceeds}
 use Rattle.rows.specs.Making.{Drawn}
@@ -18,8 +18,8 @@ use Rattle.reach.specs.Marks.{Reached}
 use Rattle.rewrite.specs.Carrying.{Both, Carrying, Start, Carries}
 use Rattle.rewrite.specs.Follow.{Following}
 
-module _ {sh : Shape} {y : List ℕ} {s : Table} {made : List ℕ} {n : ℕ} (w : Following sh y s n made) where
-  module _ (numbers : List ℕ) (marks : Reached (table_in s.rows.now s.used) y numbers) where
+module _ {sh : Shape} {y : List ℕ} {s : LentTable} {made : List ℕ} {n : ℕ} (w : Following sh y s n made) where
+  module _ (numbers : List ℕ) (marks : Reached (table_in s.rows.now s.state.used) y numbers) where
     abbrev X : Heads
     X = w.first
 
@@ -48,16 +48,16 @@ module _ {sh : Shape} {y : List ℕ} {s : Table} {made : List ℕ} {n : ℕ} (w 
     abbrev pub follow_start : Start made s numbers
     follow_start = record { both = both; state = begin }
 
-    carried-is : carry add X.tab made X.tab y s.used ≡ carry add X.tab X.heads X.tab y (length X.tab)
+    carried-is : carry add X.tab made X.tab y s.state.used ≡ carry add X.tab X.heads X.tab y (length X.tab)
     carried-is = ap₂ (λ x k. carry add X.tab x X.tab y k) w.drawn.same (sym (stored-length w.drawn.stored))
 
     -- No row is left for all that y reaches.
-    pub follow_over : {e : Refusal} → Exceeds s e (carry add X.tab made X.tab y s.used).tab → Exceeds s e (after X.tab X.heads X.tab y).tab
+    pub follow_over : {e : Refusal} → Exceeds s e (carry add X.tab made X.tab y s.state.used).tab → Exceeds s e (after X.tab X.heads X.tab y).tab
     unfolding after
     follow_over o = rw carried-is at o
 
     -- The table is that of y after the first set, and so are the heads.
-    pub follow_done : {s' : Table} {numbers' : List ℕ} → Carries made s numbers (Ok tt) s' numbers' → (made' : List ℕ)
+    pub follow_done : {s' : LentTable} {numbers' : List ℕ} → Carries made s numbers (Ok tt) s' numbers' → (made' : List ℕ)
         → made' ≡ map (λ h. get_or numbers' h 0) y → Drawn s' made' (after X.tab X.heads X.tab y)
     unfolding after
     follow_done {numbers' = numbers'} c made' moved =

@@ -15,7 +15,7 @@ use reach::mark::mark_reached;
 use reach::number::number_of;
 use rows::adding::add;
 use rows::node::{Node, node_of};
-use table::Table;
+use table::LentTable;
 
 // R34: what a constant or cell becomes: a constant itself, a cell the first set's head.
 fn head_of(x: &[u16], i: Row) -> Row
@@ -31,7 +31,7 @@ fn head_of(x: &[u16], i: Row) -> Row
 
 // R34: carries a row that is reached: a constant stays, a cell becomes the first set's head, an operation is added with its
 // operands renumbered.
-fn carry_node(x: &[u16], table: &mut Table, numbers: &[u16], node: Node) -> Result<Row, Refusal>
+fn carry_node(x: &[u16], table: &mut LentTable, numbers: &[u16], node: Node) -> Result<Row, Refusal>
     requires { Fits x.now table.old numbers.now (node_row node) }
     ensures kept { Kept table.old table.new }
     ensures puts { Puts x.now table.old numbers.now (node_row node) result table.new }
@@ -47,7 +47,7 @@ fn carry_node(x: &[u16], table: &mut Table, numbers: &[u16], node: Node) -> Resu
 }
 
 // R34: carries row k if it is marked, and notes its number in place of the mark.
-fn carry_row(x: &[u16], k: usize, table: &mut Table, numbers: &mut [u16]) -> Result<(), Refusal>
+fn carry_row(x: &[u16], k: usize, table: &mut LentTable, numbers: &mut [u16]) -> Result<(), Refusal>
     requires { Turn x.now table.old numbers.old k }
     ensures kept { Kept table.old table.new }
     ensures turns { Turns x.now table.old numbers.old k result table.new numbers.new }
@@ -62,7 +62,7 @@ fn carry_row(x: &[u16], k: usize, table: &mut Table, numbers: &mut [u16]) -> Res
 }
 
 // R34: carries the rows that are marked, lowest first.
-fn carry_rows(x: &[u16], table: &mut Table, numbers: &mut [u16]) -> Result<(), Refusal>
+fn carry_rows(x: &[u16], table: &mut LentTable, numbers: &mut [u16]) -> Result<(), Refusal>
     requires { Start x.now table.old numbers.old }
     ensures kept { Kept table.old table.new }
     ensures carries { Carries x.now table.old numbers.old result table.new numbers.new }
@@ -89,7 +89,7 @@ fn move_heads(numbers: &[u16], y: &[u16], made: &mut [u16])
 pub fn follow(
     shape: Shape,
     y: &[u16],
-    table: &mut Table,
+    table: &mut LentTable,
     numbers: &mut [u16],
     made: &mut [u16],
 ) -> Result<(), Refusal>

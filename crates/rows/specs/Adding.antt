@@ -13,7 +13,7 @@ use Rattle.laws.specs.Search.{last_of, last-low, find-from, none_to_last}
 use Rattle.base.specs.Answers.{Answer}
 use Rattle.base.specs.declared.kinds.Row as K
 use Rattle.base.specs.declared.refusal.Refusal.{Refusal}
-use Rattle.table.specs.declared.Table.{Table}
+use Rattle.table.specs.declared.LentTable.{LentTable}
 use Rattle.table.specs.Append.{More, Full}
 use Rattle.rows.specs.declared.node.Node.{Node}
 use Rattle.rows.specs.declared.node.Node.TheVariants.{Not, Two}
@@ -104,8 +104,8 @@ seek_ext f g (suc n) i e =
     rw (p, rest)
 
 -- The search by numbers, from there on, finds the row that the rule finds.
-module _ (s : Table) (n : Node) (e last at : ℕ) (made : (e ≡ entry (node_row n)) × Narrow (node_row n))
-    (from : last ≡ last_of (node_row n)) (found : at ≡ seek (λ i. eqb (get_or s.rows.now i 0) e) (s.used - (last + 1)) (last + 1)) where
+module _ (s : LentTable) (n : Node) (e last at : ℕ) (made : (e ≡ entry (node_row n)) × Narrow (node_row n))
+    (from : last ≡ last_of (node_row n)) (found : at ≡ seek (λ i. eqb (get_or s.rows.now i 0) e) (s.state.used - (last + 1)) (last + 1)) where
   abbrev q : Row
   q = node_row n
 
@@ -114,17 +114,17 @@ module _ (s : Table) (n : Node) (e last at : ℕ) (made : (e ≡ entry (node_row
       let size = stored-length st in
       let low = last-low (length t) q h in
       let next : last + 1 ≡ suc (last_of q) = omega arith in
-      let same_test : (k : ℕ) → last + 1 ≤ k → k < last + 1 + (s.used - (last + 1)) → eqb (get_or s.rows.now k 0) e ≡ same (row_at t k) q
+      let same_test : (k : ℕ) → last + 1 ≤ k → k < last + 1 + (s.state.used - (last + 1)) → eqb (get_or s.rows.now k 0) e ≡ same (row_at t k) q
       = λ k a b.
-      (let l : k < s.used = omega (arith, low) in
+      (let l : k < s.state.used = omega (arith, low) in
       let row = stored_row st k l in
       let own : get_or s.rows.now k 0 ≡ entry (row_at t k) = sym (st.entries k l) ∙ ap entry (sym row) in
       rw (own, made.0) (entry-same (row_at t k) q (rw row (entry_narrow (get_or s.rows.now k 0))) made.1)) in
-      found ∙ seek_ext _ (λ i. same (row_at t i) q) (s.used - (last + 1)) (last + 1) same_test
+      found ∙ seek_ext _ (λ i. same (row_at t i) q) (s.state.used - (last + 1)) (last + 1) same_test
       ∙ rw (next, ← size) (sym (find-from t q (suc (last_of q)) low (none_to_last t q (length t) h (canonical-below w))))
 
   -- The row stands.
-  pub settle-stood : at < s.used → (x : K.Row) → x.0 ≡ at → Settles s n (Ok x) s
+  pub settle-stood : at < s.state.used → (x : K.Row) → x.0 ≡ at → Settles s n (Ok x) s
   settle-stood l x i C t w st h m = go (inserts t q)
     where
       go : Inserts t q → Gives s (Ok x) s (settle t (make q))
@@ -132,7 +132,7 @@ module _ (s : Table) (n : Node) (e last at : ℕ) (made : (e ≡ entry (node_row
       go (fresh a b c) = absurd (omega (arith, found-row w st h, stored-length st))
 
   -- The row is not there, and is appended, or no row is left.
-  module _ (l : s.used ≤ at) {s' : Table} where
+  module _ (l : s.state.used ≤ at) {s' : LentTable} where
     pub settle-append : More s e s' → (x : K.Row) → x.0 ≡ at → Settles s n (Ok x) s'
     settle-append p x i C t w st h m = go (inserts t q)
       where
@@ -154,12 +154,12 @@ pub ready_slice : (rows : List ℕ) (used : ℕ) (r : Row) → used ≤ room (le
 ready_slice rows used r h b = below_more used (length rows) r (omega arith) (ready-below used r b)
 
 -- A slice of rows plans as the table that it stores.
-stored-plan : {s : Table} {t : List Row} → Stored s t → (r : Row) → Below (length t) r
+stored-plan : {s : LentTable} {t : List Row} → Stored s t → (r : Row) → Below (length t) r
     → plan (map row_of_entry s.rows.now) r ≡ plan t r
 stored-plan {s} {t} w r h =
     plan-kept t (map row_of_entry s.rows.now) (λ i l. slice_row s.rows.now i ∙ sym (stored_row w i (omega (arith, stored-length w)))) r h
 
-module _ (s : Table) (n : Node) (p : P.Plan) (planned : plan_row p ≡ plan (map row_of_entry s.rows.now) (node_row n)) where
+module _ (s : LentTable) (n : Node) (p : P.Plan) (planned : plan_row p ≡ plan (map row_of_entry s.rows.now) (node_row n)) where
   -- The plan over the table.
   plan-is : {t : List Row} → Stored s t → Ready (length t) (node_row n) → plan t (node_row n) ≡ plan_row p
   plan-is st h = sym (planned ∙ stored-plan st (node_row n) (ready-below _ (node_row n) h))
@@ -171,7 +171,7 @@ module _ (s : Table) (n : Node) (p : P.Plan) (planned : plan_row p ≡ plan (map
         rw is (st, refl);
   }
 
-  pub add-make : (m : Node) → p ≡ Make m → (r : Answer K.Row) (s' : Table) → Settles s m r s' → Adds s n r s'
+  pub add-make : (m : Node) → p ≡ Make m → (r : Answer K.Row) (s' : LentTable) → Settles s m r s' → Adds s n r s'
   add-make m z r s' g = record {
     gives = λ C t w st h.
         let is : plan t (node_row n) ≡ make (node_row m) = plan-is st h ∙ ap plan_row z in
@@ -183,14 +183,14 @@ module _ (s : Table) (n : Node) (p : P.Plan) (planned : plan_row p ≡ plan (map
   pub make-addable : (m : Node) → p ≡ Make m → Addable s (node_row n) → Addable s (node_row m)
   make-addable m z a = record {
     held = a.held;
-    ready = plan-ready (map row_of_entry s.rows.now) s.used (node_row n) (node_row m) a.ready (sym planned ∙ ap plan_row z);
+    ready = plan-ready (map row_of_entry s.rows.now) s.state.used (node_row n) (node_row m) a.ready (sym planned ∙ ap plan_row z);
   }
 
 -- R54: what an addition answers and leaves stands for the table after the rule's.
-pub holds-add : {C : ℕ} {s s' : Table} {t : List Row} {n : Node} {x : Answer K.Row} → Canonical C t → Stored s t
+pub holds-add : {C : ℕ} {s s' : LentTable} {t : List Row} {n : Node} {x : Answer K.Row} → Canonical C t → Stored s t
     → Adds s n x s' → (r : Row) → Ready (length t) r → node_row n ≡ r → Gives s x s' (add t r)
 holds-add {C} {t = t} w g a r h same = rw same at (a.gives C t w g (rw same h))
 
 -- R54: what was refused before an addition stands refused for the table after the rule's, too.
-pub refused-add : {s : Table} {x : Refusal} {t : List Row} → Exceeds s x t → (r : Row) → Exceeds s x (add t r).tab
+pub refused-add : {s : LentTable} {x : Refusal} {t : List Row} → Exceeds s x t → (r : Row) → Exceeds s x (add t r).tab
 refused-add {t = t} o r = record { place = o.place; more = omega (arith, o.more, ext_length (add_extends t r)) }

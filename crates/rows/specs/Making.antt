@@ -11,36 +11,36 @@ use Rattle.laws.specs.Grow.{ext_length, grown_ext}
 use Rattle.laws.specs.After.{carry_row-grown}
 use Rattle.base.specs.Answers.{Answer}
 use Rattle.base.specs.declared.kinds.Row as K
-use Rattle.table.specs.declared.Table.{Table}
+use Rattle.table.specs.declared.LentTable.{LentTable}
 use Rattle.rows.specs.Table.{Stored, Ends, Gives, Addable}
 use Rattle.table.specs.Append.{Kept}
 use Rattle.rows.specs.Stored.{stored-length, ends-before}
 
 -- Some canonical table of C cells is stored.
-pub record Open (C : ℕ) (s : Table) : Type 0 where
+pub record Open (C : ℕ) (s : LentTable) : Type 0 where
   pub table : List Row
   pub canonical : Canonical C table
   pub stored : Stored s table
 
 -- What a call leaves, and the row that it answers, are what f makes of any table that is stored.
-abbrev pub Makes : ℕ → Table → (List Row → R.Added) → Answer K.Row → Table → Type 0
+abbrev pub Makes : ℕ → LentTable → (List Row → R.Added) → Answer K.Row → LentTable → Type 0
 Makes C s f r s' = (t : List Row) → Canonical C t → Stored s t → Gives s r s' (f t)
 
 -- The table of the heads h of the rules is stored, and the heads are theirs.
-pub record Drawn (s : Table) (heads : List ℕ) (h : Heads) : Type 0 where
+pub record Drawn (s : LentTable) (heads : List ℕ) (h : Heads) : Type 0 where
   pub stored : Stored s h.tab
   pub same : heads ≡ h.heads
 
 -- R53, R54: what a call answers and leaves stands for the heads h of the rules.
-abbrev pub Draws : {A : Type 0} → Table → Answer A → Table → List ℕ → Heads → Type 0
+abbrev pub Draws : {A : Type 0} → LentTable → Answer A → LentTable → List ℕ → Heads → Type 0
 Draws s r s' heads h = Ends s r h.tab (λ _. Drawn s' heads h)
 
-pub draws-before : {A : Type 0} {s₀ s : Table} → Kept s₀ s → (r : Answer A) (s' : Table) (heads : List ℕ) (h : Heads)
+pub draws-before : {A : Type 0} {s₀ s : LentTable} → Kept s₀ s → (r : Answer A) (s' : LentTable) (heads : List ℕ) (h : Heads)
     → Draws s r s' heads h → Draws s₀ r s' heads h
 draws-before k r s' heads h d = ends-before h.tab (λ _. Drawn s' heads h) k r d
 
 -- An operation over rows of the table can be added.
-pub addable : {s : Table} {t : List Row} → Stored s t → (r : Row) → Ready (length t) r → Addable s r
+pub addable : {s : LentTable} {t : List Row} → Stored s t → (r : Row) → Ready (length t) r → Addable s r
 addable w r ready = record { held = w.held; ready = rw (stored-length w) at ready }
 
 -- R34: rows that are carried one after another only grow the table.

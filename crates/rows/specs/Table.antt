@@ -8,45 +8,45 @@ use Rattle.base.specs.Answers.{Answer}
 use Rattle.base.specs.declared.kinds.Row as K
 use Rattle.base.specs.declared.refusal.Refusal.{Refusal}
 use Rattle.base.specs.declared.refusal.Refusal.TheVariants.{NoRoom}
-use Rattle.table.specs.declared.Table.{Table}
+use Rattle.table.specs.declared.LentTable.{LentTable}
 use Rattle.table.specs.Append.{room_of}
 use Rattle.rows.specs.Entries.{node_row, entry, row_of_entry, table_in}
 use Rattle.rows.specs.declared.node.Node.{Node}
 
 -- The numbers of the rows that are used are t's rows, each in its own number.
-pub record Stored (s : Table) (t : List Row) : Type 0 where
-  pub held : s.used ≤ room_of s
-  pub table : table_in s.rows.now s.used ≡ t
-  pub entries : (i : ℕ) → i < s.used → entry (row_of_entry (get_or s.rows.now i 0)) ≡ get_or s.rows.now i 0
+pub record Stored (s : LentTable) (t : List Row) : Type 0 where
+  pub held : s.state.used ≤ room_of s
+  pub table : table_in s.rows.now s.state.used ≡ t
+  pub entries : (i : ℕ) → i < s.state.used → entry (row_of_entry (get_or s.rows.now i 0)) ≡ get_or s.rows.now i 0
 
 -- R54: the table t has more rows than there is room for, and is refused with the rows that may be used.
-pub record Exceeds (s : Table) (x : Refusal) (t : List Row) : Type 0 where
+pub record Exceeds (s : LentTable) (x : Refusal) (t : List Row) : Type 0 where
   pub place : x ≡ NoRoom (room_of s)
   pub more : room_of s < length t
 
 -- R53, R54: how a call that makes the table t ends: as P says; or it is refused, and t has more rows than there is room for.
-abbrev pub Ends : {A : Type 0} → Table → Answer A → List Row → (A → Type 0) → Type 0
+abbrev pub Ends : {A : Type 0} → LentTable → Answer A → List Row → (A → Type 0) → Type 0
 Ends s (Ok x) t P = P x
 Ends s (Err e) t P = Exceeds s e t
 
 -- R53, R54: what a call answers and leaves stands for the table t: it is stored, or refused.
-abbrev pub Holds : {A : Type 0} → Table → Answer A → Table → List Row → Type 0
+abbrev pub Holds : {A : Type 0} → LentTable → Answer A → LentTable → List Row → Type 0
 Holds s r s' t = Ends s r t (λ _. Stored s' t)
 
 -- What an addition answers and leaves stands for the table after the rule's addition, and its row.
-abbrev pub Gives : Table → Answer K.Row → Table → R.Added → Type 0
+abbrev pub Gives : LentTable → Answer K.Row → LentTable → R.Added → Type 0
 Gives s r s' a = Ends s r a.tab (λ x. Stored s' a.tab × (x.0 ≡ a.row))
 
 -- An operation over rows that are used.
-pub record Addable (s : Table) (r : Row) : Type 0 where
-  pub held : s.used ≤ room_of s
-  pub ready : Ready s.used r
+pub record Addable (s : LentTable) (r : Row) : Type 0 where
+  pub held : s.state.used ≤ room_of s
+  pub ready : Ready s.state.used r
 
 -- R30: settling a row that the rule makes.
-abbrev pub Settles : Table → Node → Answer K.Row → Table → Type 0
+abbrev pub Settles : LentTable → Node → Answer K.Row → LentTable → Type 0
 Settles s n r s' = (C : ℕ) (t : List Row) → Canonical C t → Stored s t → Ready (length t) (node_row n)
     → plan t (node_row n) ≡ make (node_row n) → Gives s r s' (settle t (make (node_row n)))
 
 -- R28 to R30: adding an operation.
-pub record Adds (s : Table) (n : Node) (r : Answer K.Row) (s' : Table) : Type 0 where
+pub record Adds (s : LentTable) (n : Node) (r : Answer K.Row) (s' : LentTable) : Type 0 where
   pub gives : (C : ℕ) (t : List Row) → Canonical C t → Stored s t → Ready (length t) (node_row n) → Gives s r s' (add t (node_row n))

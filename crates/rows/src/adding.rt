@@ -11,7 +11,7 @@ use crate::node::{Node, entry_of, last_operand, node_at};
 use crate::rule::{Plan, plan_not, plan_two};
 use base::kinds::Row;
 use base::refusal::Refusal;
-use table::Table;
+use table::LentTable;
 
 // R28, R29: the plan for an operation over rows that stand.
 fn plan_node(rows: &[u64], node: Node) -> Plan
@@ -40,7 +40,7 @@ fn find_entry(rows: &[u64], start: usize, used: usize, entry: u64) -> usize
 }
 
 // R30, R53, R54: the first equal row, or an append. The search starts after the larger operand, since no equal row stands earlier.
-fn settle(table: &mut Table, node: Node) -> Result<Row, Refusal>
+fn settle(table: &mut LentTable, node: Node) -> Result<Row, Refusal>
     requires { Addable table.old (node_row node) }
     ensures kept { Kept table.old table.new }
     ensures settles { Settles table.old node result table.new }
@@ -57,7 +57,7 @@ fn settle(table: &mut Table, node: Node) -> Result<Row, Refusal>
 }
 
 // R28 to R30: adds an operation, and answers its row.
-pub fn add(table: &mut Table, node: Node) -> Result<Row, Refusal>
+pub fn add(table: &mut LentTable, node: Node) -> Result<Row, Refusal>
     requires { Addable table.old (node_row node) }
     ensures kept { Kept table.old table.new }
     ensures adds { Adds table.old node result table.new }

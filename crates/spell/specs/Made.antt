@@ -13,7 +13,7 @@ use Rattle.laws.specs.Build.{add_exp-grown, add_exp_sound}
 use Rattle.laws.specs.Own.{Simple, simple_row, simple_added}
 use Rattle.base.specs.Answers.{Answer}
 use Rattle.base.specs.declared.kinds.Row as K
-use Rattle.table.specs.declared.Table.{Table}
+use Rattle.table.specs.declared.LentTable.{LentTable}
 use Rattle.base.specs.declared.refusal.Refusal.{Refusal}
 use Rattle.table.specs.Append.{Kept}
 use Rattle.rows.specs.Table.{Stored, Addable, Adds}
@@ -23,11 +23,11 @@ use Rattle.rows.specs.Making.{Open, Makes, addable}
 use Rattle.rows.specs.declared.node.Node.TheVariants.{Not, Two}
 
 -- R37: what is left, and the row that is answered, are what adding the expression x makes of any table that is stored.
-pub record Made (C : ℕ) (s : Table) (x : Exp) (r : Answer K.Row) (s' : Table) : Type 0 where
+pub record Made (C : ℕ) (s : LentTable) (x : Exp) (r : Answer K.Row) (s' : LentTable) : Type 0 where
   pub gives : Makes C s (λ t. add_exp t x) r s'
 
 -- R26: a constant or a cell is a row that stands.
-pub made-simple : (C : ℕ) (s : Table) (x : Exp) → Simple x → (r : K.Row) → r.0 ≡ simple_row x → Made C s x (Ok r) s
+pub made-simple : (C : ℕ) (s : LentTable) (x : Exp) → Simple x → (r : K.Row) → r.0 ≡ simple_row x → Made C s x (Ok r) s
 made-simple C s x h r e = record { gives = λ t w g. rw (simple_added t x h) (g, e) }
 
 -- Two operands make a table no shorter than the first.
@@ -42,7 +42,7 @@ two-longer o t x y =
     )
 
 -- No row is left for an expression: there is none for one that has it as its first operand.
-module _ {C : ℕ} {s s' : Table} {x : Exp} {e : Refusal} (m : Made C s x (Err e) s') where
+module _ {C : ℕ} {s s' : LentTable} {x : Exp} {e : Refusal} (m : Made C s x (Err e) s') where
   pub full-not : Made C s (neg x) (Err e) s'
   unfolding add_exp
   full-not = record {
@@ -54,7 +54,7 @@ module _ {C : ℕ} {s s' : Table} {x : Exp} {e : Refusal} (m : Made C s x (Err e
   full-two o y = record { gives = λ t w g. exceeds-more (kept_refl s) (m.gives t w g) (two-longer o t x y) }
 
 -- One expression that was made.
-module _ {C : ℕ} {s s₁ : Table} {x : Exp} {a : K.Row} (ox : Over C x) (m : Made C s x (Ok a) s₁) where
+module _ {C : ℕ} {s s₁ : LentTable} {x : Exp} {a : K.Row} (ox : Over C x) (m : Made C s x (Ok a) s₁) where
   pub open_after : Open C s → Open C s₁
   open_after o = record {
     table = (add_exp o.table x).tab;
@@ -68,7 +68,7 @@ module _ {C : ℕ} {s s₁ : Table} {x : Exp} {a : K.Row} (ox : Over C x) (m : M
       addable g.0 (inv a.0) (omega (arith, g.1, (add_exp_sound o.canonical x ox).low))
 
   module _ (k : Kept s s₁) where
-    pub made-not : {r : Answer K.Row} {s' : Table} → Adds s₁ (Not a) r s' → Made C s (neg x) r s'
+    pub made-not : {r : Answer K.Row} {s' : LentTable} → Adds s₁ (Not a) r s' → Made C s (neg x) r s'
     unfolding add_exp
     made-not {r} d = record {
       gives = λ t w g.
@@ -78,7 +78,7 @@ module _ {C : ℕ} {s s₁ : Table} {x : Exp} {a : K.Row} (ox : Over C x) (m : M
     }
 
     -- No row is left for another after it.
-    pub full-second : (o : Bool) {y : Exp} {e : Refusal} {s' : Table} → Made C s₁ y (Err e) s' → Made C s (E.bin o x y) (Err e) s'
+    pub full-second : (o : Bool) {y : Exp} {e : Refusal} {s' : LentTable} → Made C s₁ y (Err e) s' → Made C s (E.bin o x y) (Err e) s'
     unfolding add_exp
     full-second o {y} n = record {
       gives = λ t w g.
@@ -89,7 +89,7 @@ module _ {C : ℕ} {s s₁ : Table} {x : Exp} {a : K.Row} (ox : Over C x) (m : M
     }
 
   -- And another after it.
-  module _ {y : Exp} {b : K.Row} {s₂ : Table} (oy : Over C y) (n : Made C s₁ y (Ok b) s₂) (o : Bool) where
+  module _ {y : Exp} {b : K.Row} {s₂ : LentTable} (oy : Over C y) (n : Made C s₁ y (Ok b) s₂) (o : Bool) where
     -- The two rows.
     record Both (t : List Row) : Type 0 where
       canonical : Canonical C (add_exp (add_exp t x).tab y).tab
@@ -116,7 +116,7 @@ module _ {C : ℕ} {s s₁ : Table} {x : Exp} {a : K.Row} (ox : Over C x) (m : M
         let q = both w.table w.canonical w.stored in
         rw q.same (addable q.stored _ q.ready)
 
-    pub made-two : Kept s s₂ → {r : Answer K.Row} {s' : Table} → Adds s₂ (Two o a b) r s' → Made C s (E.bin o x y) r s'
+    pub made-two : Kept s s₂ → {r : Answer K.Row} {s' : LentTable} → Adds s₂ (Two o a b) r s' → Made C s (E.bin o x y) r s'
     unfolding add_exp
     made-two k {r} d = record {
       gives = λ t w g.

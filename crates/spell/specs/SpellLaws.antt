@@ -10,7 +10,7 @@ use Rattle.laws.specs.ProgramFile.{expr_over}
 use Rattle.laws.specs.Build.{over-more}
 use Rattle.base.specs.declared.kinds.Row as K
 use Rattle.program.specs.Reading.{Reads, Parts, variable_parts, constant_parts, not-parts, two-parts, read-operand, read-second}
-use Rattle.table.specs.declared.Table.{Table}
+use Rattle.table.specs.declared.LentTable.{LentTable}
 use Rattle.base.specs.declared.refusal.Refusal.{Refusal}
 use Rattle.table.specs.Append.{Kept}
 use Rattle.rows.specs.Table.{Addable, Adds}
@@ -34,7 +34,7 @@ constant_row d h = elim (dec_lt d 1) [
       rw e
 ]
 
-module _ (file : List ℕ) (v stop p : ℕ) (s : Table) (g : Spelling file v stop p s) where
+module _ (file : List ℕ) (v stop p : ℕ) (s : LentTable) (g : Spelling file v stop p s) where
   abbrev b : ℕ
   b = get_or file p 0
 
@@ -69,7 +69,7 @@ module _ (file : List ℕ) (v stop p : ℕ) (s : Table) (g : Spelling file v sto
   }
 
   -- No row is left for the first operand.
-  pub spell_full : 252 ≤ b → {e : Refusal} {s' : Table} → Unspelt file v stop (p + 1) s e s' → Unspelt file v stop p s e s'
+  pub spell_full : 252 ≤ b → {e : Refusal} {s' : LentTable} → Unspelt file v stop (p + 1) s e s' → Unspelt file v stop p s e s'
   spell_full h w = record {
     full = λ C n x q. elim (dec_lt 252 b) [
       | yes l ↦
@@ -82,7 +82,7 @@ module _ (file : List ℕ) (v stop p : ℕ) (s : Table) (g : Spelling file v sto
   }
 
   -- The first operand was added.
-  module _ (y : Grown) (s₁ : Table) (w : Spelt file v stop (p + 1) s y s₁) where
+  module _ (y : Grown) (s₁ : LentTable) (w : Spelt file v stop (p + 1) s y s₁) where
     abbrev w' : Spelt file v stop (suc p) s y s₁
     w' = rw add-one at w
 
@@ -102,7 +102,7 @@ module _ (file : List ℕ) (v stop p : ℕ) (s : Table) (g : Spelling file v sto
         not-addable (reads_over g.count g.enough t.1) (w'.made g.count g.enough t.0 t.1) g.opened
 
     module _ (k : Kept s s₁) where
-      pub spell_not : b ≡ 252 → (a : K.Row) {s' : Table} → Adds s₁ (Not y.row) (Ok a) s'
+      pub spell_not : b ≡ 252 → (a : K.Row) {s' : LentTable} → Adds s₁ (Not y.row) (Ok a) s'
           → Spelt file v stop p s (record { row = a; next = y.next }) s'
       spell_not h a d = record {
         place = λ x q.
@@ -113,7 +113,7 @@ module _ (file : List ℕ) (v stop p : ℕ) (s : Table) (g : Spelling file v sto
             rw t.2 (made-not (reads_over C n t.1) (w'.made C n t.0 t.1) k d);
       }
 
-      pub spell_not_full : b ≡ 252 → {e : Refusal} {s' : Table} → Adds s₁ (Not y.row) (Err e) s' → Unspelt file v stop p s e s'
+      pub spell_not_full : b ≡ 252 → {e : Refusal} {s' : LentTable} → Adds s₁ (Not y.row) (Err e) s' → Unspelt file v stop p s e s'
       spell_not_full h d = record {
         full = λ C n x q.
             let t = not-parts file v stop p g.legible x q h in
@@ -121,7 +121,7 @@ module _ (file : List ℕ) (v stop p : ℕ) (s : Table) (g : Spelling file v sto
       }
 
       -- No row is left for the second.
-      pub spell_second_full : 252 < b → {e : Refusal} {s' : Table} → Unspelt file v stop y.next s₁ e s' → Unspelt file v stop p s e s'
+      pub spell_second_full : 252 < b → {e : Refusal} {s' : LentTable} → Unspelt file v stop y.next s₁ e s' → Unspelt file v stop p s e s'
       spell_second_full h u = record {
         full = λ C n x q.
             let t = two-parts file v stop p g.legible x q h in
@@ -129,7 +129,7 @@ module _ (file : List ℕ) (v stop p : ℕ) (s : Table) (g : Spelling file v sto
       }
 
     -- So was the second.
-    module _ (h : 252 < b) (z : Grown) (s₂ : Table) (u : Spelt file v stop y.next s₁ z s₂) where
+    module _ (h : 252 < b) (z : Grown) (s₂ : LentTable) (u : Spelt file v stop y.next s₁ z s₂) where
       first : {x : Read Exp} {o : Bool} (t : Parts file v stop p x (two o)) → y.next ≡ t.0.next
       first t = w'.place t.0 t.2
 
@@ -141,7 +141,7 @@ module _ (file : List ℕ) (v stop p : ℕ) (s : Table) (g : Spelling file v sto
           g.opened
 
       module _ (k : Kept s s₂) where
-        pub spell_two : (a : K.Row) {s' : Table} → Adds s₂ (Two (eqb b 253) y.row z.row) (Ok a) s'
+        pub spell_two : (a : K.Row) {s' : LentTable} → Adds s₂ (Two (eqb b 253) y.row z.row) (Ok a) s'
             → Spelt file v stop p s (record { row = a; next = z.next }) s'
         spell_two a d = record {
           place = λ x q.
@@ -154,7 +154,7 @@ module _ (file : List ℕ) (v stop p : ℕ) (s : Table) (g : Spelling file v sto
               ((rw (first t) at u).made C n t.1 t.3) (eqb b 253) k d);
         }
 
-        pub spell_two_full : {e : Refusal} {s' : Table} → Adds s₂ (Two (eqb b 253) y.row z.row) (Err e) s' → Unspelt file v stop p s e s'
+        pub spell_two_full : {e : Refusal} {s' : LentTable} → Adds s₂ (Two (eqb b 253) y.row z.row) (Err e) s' → Unspelt file v stop p s e s'
         spell_two_full d = record {
           full = λ C n x q.
               let t = two-parts file v stop p g.legible x q h in

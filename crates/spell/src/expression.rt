@@ -8,7 +8,7 @@ use base::refusal::Refusal;
 use reader::read_at;
 use rows::adding::add;
 use rows::node::Node;
-use table::Table;
+use table::LentTable;
 
 // The row of an expression, and the place after the expression.
 #[derive(Clone, Copy)]
@@ -35,7 +35,7 @@ pub fn add_expression(
     vars: usize,
     stop: usize,
     at: usize,
-    table: &mut Table,
+    table: &mut LentTable,
 ) -> Result<Grown, Refusal>
     requires { Spelling file.now vars stop at table.old }
     ensures kept { Kept table.old table.new }

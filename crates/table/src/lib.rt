@@ -7,12 +7,23 @@ ghost use Rattle.table.specs.Append.{Kept, Appends};
 
 use base::refusal::Refusal;
 
-// The rows that are lent, and how many of them are used. A row names others by their numbers, as in a set file (R41): there is no heap.
-// Both are public: one may go on with rows that a slice holds already, or keep how many are used and go back to that.
-#[derive(Drop)]
-pub struct Table<'a> {
-    pub rows: &'a mut [u64],
+// The state of a row table: how many rows of a lent slice are used. It is a copy, so it can be kept, and gone back to.
+#[derive(Clone, Copy)]
+pub struct Table {
     pub used: usize,
+}
+
+impl Table {
+    // No row is used.
+    pub const EMPTY: Table = Table { used: 0 };
+}
+
+// The rows that are lent, and the state of the table in them. A row names others by their numbers, as in a set file (R41): there is no heap.
+// Both are public: one may go on with rows that a slice holds already.
+#[derive(Drop)]
+pub struct LentTable<'a> {
+    pub rows: &'a mut [u64],
+    pub state: Table,
 }
 
 // R53: how many of so many rows may be used.
@@ -22,13 +33,16 @@ pub fn room_in(rows: usize) -> usize
     rows.min(65535)
 }
 
-impl<'a> Table<'a> {
+impl<'a> LentTable<'a> {
     // No row is used.
-    pub fn empty(rows: &'a mut [u64]) -> Table<'a>
+    pub fn empty(rows: &'a mut [u64]) -> LentTable<'a>
         ensures same { result.rows.ghost_name ≡ rows.entry.ghost_name }
-        ensures empty { (result.rows.now ≡ rows.old) × (result.used ≡ 0) }
+        ensures empty { (result.rows.now ≡ rows.old) × (result.state.used ≡ 0) }
     {
-        Table { rows, used: 0 }
+        LentTable {
+            rows,
+            state: Table::EMPTY,
+        }
     }
 
     // All rows that are lent.
@@ -40,9 +54,9 @@ impl<'a> Table<'a> {
 
     // How many are used.
     pub fn used(&self) -> usize
-        ensures { result ≡ self.now.used }
+        ensures { result ≡ self.now.state.used }
     {
-        self.used
+        self.state.used
     }
 
     // R53, R54: stores a row's number after those that are used; or refuses, where no row is left, with as many as may be used.
@@ -51,9 +65,9 @@ impl<'a> Table<'a> {
         ensures appends { Appends self.old entry result self.new }
     {
         let room = room_in(self.rows.len());
-        if self.used < room {
-            self.rows[self.used] = entry;
-            self.used += 1;
+        if self.state.used < room {
+            self.rows[self.state.used] = entry;
+            self.state.used += 1;
             return Ok(());
         }
         Err(Refusal::NoRoom(room as u32))

@@ -14,7 +14,7 @@ use Rattle.laws.specs.Choice.{choice-grown}
 use Rattle.base.specs.Answers.{Answer}
 use Rattle.base.specs.declared.refusal.Refusal.{Refusal}
 use Rattle.table.specs.Append.{Kept}
-use Rattle.table.specs.declared.Table.{Table}
+use Rattle.table.specs.declared.LentTable.{LentTable}
 use Rattle.choice.specs.Choosing.{Choosing, Chooses}
 use Rattle.rewrite.specs.Follow.{Following}
 use Rattle.rows.specs.Table.{Exceeds}
@@ -41,7 +41,7 @@ module _ {C : ℕ} (X : Heads) (y : List ℕ) (p : Stands C X) (q : Stands C (ov
   pub called-second : Stands C (over called.tab y)
   called-second = stands_ext called-stands.canonical (grown_ext (after-grown X.tab X.heads X.tab y)) y q
 
-module _ {sh : Shape} {y : List ℕ} {s : Table} {made : List ℕ} {n : ℕ} (w : Following sh y s n made) where
+module _ {sh : Shape} {y : List ℕ} {s : LentTable} {made : List ℕ} {n : ℕ} (w : Following sh y s n made) where
   pub low : {t : List Row} {x : List ℕ} → Stands (cells sh) (over t x) → row_of_cell (flag sh) < length t
   low p = omega (arith, p.canonical.long)
 
@@ -57,7 +57,7 @@ module _ {sh : Shape} {y : List ℕ} {s : Table} {made : List ℕ} {n : ℕ} (w 
       count = refl;
     }
 
-    pub jumps_jpc : (r : Answer (Unit {0})) (s' : Table) (made' : List ℕ) → Chooses (length made) f y s made r s' made'
+    pub jumps_jpc : (r : Answer (Unit {0})) (s' : LentTable) (made' : List ℕ) → Chooses (length made) f y s made r s' made'
         → Draws s r s' made' (jumped sh Jpc w.first y)
     jumps_jpc r s' made' g = rw e at (g jump_choosing)
 
@@ -69,7 +69,7 @@ module _ {sh : Shape} {y : List ℕ} {s : Table} {made : List ℕ} {n : ℕ} (w 
   pub call_full : {e : Refusal} → Exceeds s e F.tab → Exceeds s e (jumped sh Jsc w.first y).tab
   call_full o = exceeds-more (kept_refl s) o (ext_length (grown_ext (choice-grown F.tab (row_of_cell (flag sh)) F.heads y)))
 
-  module _ (f : ℕ) (e : f ≡ row_of_cell (flag sh)) {s₁ : Table} {made₁ : List ℕ} (g : Drawn s₁ made₁ F) (size : length made₁ ≡ length made) where
+  module _ (f : ℕ) (e : f ≡ row_of_cell (flag sh)) {s₁ : LentTable} {made₁ : List ℕ} (g : Drawn s₁ made₁ F) (size : length made₁ ≡ length made) where
     abbrev pub call_choosing : Choosing (length made₁) f y s₁ made₁
     call_choosing = record {
       first = F;
@@ -80,6 +80,6 @@ module _ {sh : Shape} {y : List ℕ} {s : Table} {made : List ℕ} {n : ℕ} (w 
       count = refl;
     }
 
-    pub jumps_jsc : Kept s s₁ → (r : Answer (Unit {0})) (s' : Table) (made' : List ℕ)
+    pub jumps_jsc : Kept s s₁ → (r : Answer (Unit {0})) (s' : LentTable) (made' : List ℕ)
         → Chooses (length made₁) f y s₁ made₁ r s' made' → Draws s r s' made' (jumped sh Jsc w.first y)
     jumps_jsc k r s' made' h = draws-before k r s' made' _ (rw e at (h call_choosing))

@@ -27,7 +27,7 @@ use Rattle.reader.specs.declared.code.LabelCode.{LabelCode}
 use Rattle.reader.specs.Codes.{on_label}
 use Rattle.program.specs.Standing.{program_in, instr_at, Standing, standing-at, formed, deep, most-cells, tells}
 use Rattle.base.specs.declared.refusal.Refusal.{Refusal}
-use Rattle.table.specs.declared.Table.{Table}
+use Rattle.table.specs.declared.LentTable.{LentTable}
 use Rattle.table.specs.Append.{Kept, room_of}
 use Rattle.rows.specs.Table.{Stored, Exceeds}
 use Rattle.rows.specs.Stored.{exceeds-more, kept_refl}
@@ -63,14 +63,14 @@ built-longer {file} {sh} {n} r (suc i) h =
     omega (arith, turn-grows (standing-at file sh n 0 r i (omega arith)), built-longer r i (omega arith))
 
 -- R38: instruction i is plain, and its own set is made.
-pub record Acted (file : List ℕ) (sh : Shape) (i : ℕ) (s : Table) (made : List ℕ) (s' : Table) (made' : List ℕ) : Type 0 where
+pub record Acted (file : List ℕ) (sh : Shape) (i : ℕ) (s : LentTable) (made : List ℕ) (s' : LentTable) (made' : List ℕ) : Type 0 where
   pub what : Plain
   pub is : instr_at file i ≡ plain what
   pub kept : Kept s s'
   pub owns : Owns (shape_of sh) what s (Ok tt) s' made'
   pub size : length made' ≡ length made
 
-module _ {file : List ℕ} {sh : Shape} {n i : ℕ} {s : Table} {numbers : ℕ} {heads made : List ℕ}
+module _ {file : List ℕ} {sh : Shape} {n i : ℕ} {s : LentTable} {numbers : ℕ} {heads made : List ℕ}
     (w : Turning file sh n i s numbers heads made) where
   abbrev C : ℕ
   C = cells (shape_of sh)
@@ -121,7 +121,7 @@ module _ {file : List ℕ} {sh : Shape} {n i : ℕ} {s : Table} {numbers : ℕ} 
 
   -- T(i+1) after heads over a table that has only grown.
   followed : (y : List ℕ) → y ≡ slot C heads (i + 1) → suc i < n → (X : Heads) → Stands C X → Ext b.tab X.tab
-      → {s' : Table} {made' : List ℕ} → Drawn s' made' X → length made' ≡ C → Kept s s' → Following (shape_of sh) y s' numbers made'
+      → {s' : LentTable} {made' : List ℕ} → Drawn s' made' X → length made' ≡ C → Kept s s' → Following (shape_of sh) y s' numbers made'
   followed y e k X p m d c kept =
       let q = next-is y e k in
       record {
@@ -168,11 +168,11 @@ module _ {file : List ℕ} {sh : Shape} {n i : ℕ} {s : Table} {numbers : ℕ} 
       (ext_length (grown_ext (after-grown h.tab h.heads h.tab (set_at b (suc i) (suc i))))))
 
   -- R38: END's turn is the own set of INIT.
-  pub end_turned : (r : Answer (Unit {0})) (s' : Table) (made' : List ℕ) → Owns (shape_of sh) INIT s r s' made' → instr_at file i ≡ END
+  pub end_turned : (r : Answer (Unit {0})) (s' : LentTable) (made' : List ℕ) → Owns (shape_of sh) INIT s r s' made' → instr_at file i ≡ END
       → Draws s r s' made' (turn_at file i)
   end_turned r s' made' g x = rw (turn_as END x) (g b.tab canonical w.built-on.stored)
 
-  module _ {s' : Table} {made' : List ℕ} (a : Acted file sh i s made s' made') where
+  module _ {s' : LentTable} {made' : List ℕ} (a : Acted file sh i s made s' made') where
     abbrev h : Heads
     h = own b.tab (shape_of sh) a.what
 
@@ -188,7 +188,7 @@ module _ {file : List ℕ} {sh : Shape} {n i : ℕ} {s : Table} {numbers : ℕ} 
           (grown_ext (own-grown b.tab (shape_of sh) a.what)) (a.owns b.tab canonical w.built-on.stored) (a.size ∙ w.count) a.kept
 
       -- R38: a plain instruction's turn is T(i+1) after its own set.
-      pub plain-turned : (r : Answer (Unit {0})) (s'' : Table) (made'' : List ℕ)
+      pub plain-turned : (r : Answer (Unit {0})) (s'' : LentTable) (made'' : List ℕ)
           → Follows (shape_of sh) y s' numbers made' r s'' made'' → Draws s r s'' made'' (turn_at file i)
       unfolding followed own-following
       plain-turned r s'' made'' f =
@@ -225,7 +225,7 @@ module _ {file : List ℕ} {sh : Shape} {n i : ℕ} {s : Table} {numbers : ℕ} 
           drawn (ap length copied ∙ slot-length C heads l.0 (slot-ends l.0 t.1)) (kept_refl s)
 
       -- R38: what is left is the turn of instruction i.
-      pub jump_turned : (r : Answer (Unit {0})) (s' : Table) (made'' : List ℕ)
+      pub jump_turned : (r : Answer (Unit {0})) (s' : LentTable) (made'' : List ℕ)
           → Jumps (shape_of sh) c y s numbers made' r s' made'' → Draws s r s' made'' (turn_at file i)
       unfolding followed jumping
       jump_turned r s' made'' g =
@@ -236,7 +236,7 @@ module _ {file : List ℕ} {sh : Shape} {n i : ℕ} {s : Table} {numbers : ℕ} 
   -- ---- the heads in their slot
 
   -- R38: with the heads of T(i) in their slot, which begins at a, T(i) and on are built.
-  pub turn-built : {s' : Table} {made' : List ℕ} → Drawn s' made' (turn_at file i) → length made' ≡ length made
+  pub turn-built : {s' : LentTable} {made' : List ℕ} → Drawn s' made' (turn_at file i) → length made' ≡ length made
       → (ys : List ℕ) → ys ≡ made' → (a c : ℕ) → a ≡ i * c → c ≡ C → Building file sh n s' (put_at a (a + c - a) heads ys) i
   turn-built {made' = made'} d size ys same a c e q =
       let z : a + c - a ≡ C = omega arith in
@@ -263,7 +263,7 @@ module _ {file : List ℕ} {sh : Shape} {n i : ℕ} {s : Table} {numbers : ℕ} 
   pub turn-full : {e : Refusal} → Exceeds s e (turn_at file i).tab → Exceeds s e (built file i).tab
   turn-full o = rw (built-is place) o
 
-module _ {file : List ℕ} {sh : Shape} {n : ℕ} (i : ℕ) {s : Table} {heads : List ℕ} (b : Building file sh n s heads (i + 1)) where
+module _ {file : List ℕ} {sh : Shape} {n : ℕ} (i : ℕ) {s : LentTable} {heads : List ℕ} (b : Building file sh n s heads (i + 1)) where
   -- The instruction whose turn it is.
   pub due : Standing file sh n i
   due = standing-at file sh n 0 b.standing i (omega (arith, b.high))
@@ -279,6 +279,6 @@ module _ {file : List ℕ} {sh : Shape} {n : ℕ} (i : ℕ) {s : Table} {heads :
       record { low = omega (arith, b.high); built-on = rw z at b; numbers_lent = l; count = c }
 
 -- No row is left for a turn, so none is for all of them.
-pub turns-full : {file : List ℕ} {sh : Shape} {n j : ℕ} {s₀ s : Table} {heads : List ℕ} {e : Refusal} (i : ℕ) → i ≤ j
+pub turns-full : {file : List ℕ} {sh : Shape} {n j : ℕ} {s₀ s : LentTable} {heads : List ℕ} {e : Refusal} (i : ℕ) → i ≤ j
     → Building file sh n s heads j → Kept s₀ s → Exceeds s e (built file i).tab → Exceeds s₀ e (built file 0).tab
 turns-full i h b k o = exceeds-more k o (built-longer b.standing i (omega (arith, b.high)))

@@ -17,7 +17,7 @@ use program::body::instr_at;
 use reader::body::Body;
 use reader::code::{AloneCode, LabelCode};
 use rewrite::follow;
-use table::Table;
+use table::LentTable;
 
 // Copies heads. `copy_cells` of `storage` is its twin for cells: each is one call.
 pub fn copy_heads(from: &[u16], to: &mut [u16])
@@ -50,7 +50,7 @@ fn jump_heads(
     shape: Shape,
     code: LabelCode,
     next: &[u16],
-    table: &mut Table,
+    table: &mut LentTable,
     numbers: &mut [u16],
     made: &mut [u16],
 ) -> Result<(), Refusal>
@@ -77,7 +77,7 @@ pub fn turn_heads(
     n: usize,
     i: Instr,
     heads: &[u16],
-    table: &mut Table,
+    table: &mut LentTable,
     numbers: &mut [u16],
     made: &mut [u16],
 ) -> Result<(), Refusal>

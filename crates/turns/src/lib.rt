@@ -8,7 +8,7 @@ ghost use Rattle.turn.specs.Turning.{Turning, Building, Builds};
 use base::kinds::Instr;
 use base::refusal::Refusal;
 use base::shape::Shape;
-use table::Table;
+use table::LentTable;
 use turn::{copy_heads, slot_of, turn_heads};
 
 // R38: the turn of instruction i, whose heads are put in their place.
@@ -17,7 +17,7 @@ fn turn_into(
     shape: Shape,
     n: usize,
     i: Instr,
-    table: &mut Table,
+    table: &mut LentTable,
     numbers: &mut [u16],
     heads: &mut [u16],
     made: &mut [u16],
@@ -40,7 +40,7 @@ fn build_turn(
     shape: Shape,
     n: usize,
     i: Instr,
-    table: &mut Table,
+    table: &mut LentTable,
     numbers: &mut [u16],
     heads: &mut [u16],
 ) -> Result<(), Refusal>
@@ -59,7 +59,7 @@ pub fn build_turns(
     file: &[u8],
     shape: Shape,
     n: usize,
-    table: &mut Table,
+    table: &mut LentTable,
     numbers: &mut [u16],
     heads: &mut [u16],
 ) -> Result<(), Refusal>

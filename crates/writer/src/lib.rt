@@ -49,8 +49,7 @@ pub fn write_unchanging(shape: Shape, out: &mut [u8]) -> Result<usize, Refusal>
 }
 
 // R36, R41, R59: writes the set that heads over a table are: the rows that they reach, renumbered in order. A short output is untouched.
-// It reads the rows from any slice, so a caller needs no `Table`.
-pub fn write_table(
+fn write_table(
     shape: Shape,
     heads: &[u16],
     rows: &[u64],
@@ -76,16 +75,17 @@ pub fn write_table(
     Ok(length)
 }
 
-// R54, R59: the end of building and composing: the set that heads over the table are is written.
+// R54, R59: the end of building and composing: the set that heads over the rows in use are is written. The rows are only read.
 pub fn write_finished(
     shape: Shape,
     heads: &[u16],
-    table: &Table,
+    rows: &[u64],
+    table: Table,
     numbers: &mut [u16],
     out: &mut [u8],
 ) -> Result<usize, Refusal>
-    requires { Finishing (shape_of shape) heads.now table.now (length numbers.old) }
-    ensures { Finishes (shape_of shape) heads.now table.now result out.old out.new }
+    requires { Finishing (shape_of shape) heads.now rows.now table (length numbers.old) }
+    ensures { Finishes (shape_of shape) heads.now rows.now table result out.old out.new }
 {
-    write_table(shape, heads, table.rows(), table.used(), numbers, out)
+    write_table(shape, heads, rows, table.used, numbers, out)
 }

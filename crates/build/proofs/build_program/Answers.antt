@@ -32,10 +32,11 @@ pub write_finished-requires : goal.write_finished-requires
 write_finished-requires c =
     let turns = c.in_ok-build_turns.ensures in
     let size = turns.kept.size ∙ c.in_ok-put_leaves.ensures.kept.size ∙ ap length c.empty-table.ensures.empty.0 in
-    finishing _ _ _ _ _ turns.builds _ c.cells-cells.ensures _ (rw (size, c.build_turns.auto.numbers) c.requires.numbers_lent)
+    rw c.rows.ensures
+    (finishing _ _ _ _ _ turns.builds _ c.cells-cells.ensures _ (rw (size, c.build_turns.auto.numbers) c.requires.numbers_lent))
 
 pub returns : goal.returns
 returns c =
     let turns = c.in_ok-build_turns.ensures in
     let size = turns.kept.size ∙ c.in_ok-put_leaves.ensures.kept.size ∙ ap length c.empty-table.ensures.empty.0 in
-    finished _ _ _ _ _ turns.builds _ c.cells-cells.ensures _ _ _ size c.requires _ _ _ c.write_finished.ensures
+    finished _ _ _ _ _ turns.builds _ c.cells-cells.ensures _ _ _ size c.requires _ _ _ (rw c.rows.ensures at c.write_finished.ensures)
