@@ -21,7 +21,12 @@ use sets::read::{head_in, row_in};
 use table::LentTable;
 
 // The rows of a set file, appended to an empty table one after another. With room for all of them it does not fail.
-pub fn copy_rows(file: &[u8], shape: Shape, total: usize, table: &mut LentTable) -> Result<(), Refusal>
+pub fn copy_rows(
+    file: &[u8],
+    shape: Shape,
+    total: usize,
+    table: &mut LentTable,
+) -> Result<(), Refusal>
     requires { Copied file.now shape total table.old }
     ensures room { total ≤ length table.old.rows.now → result ≡ Ok tt }
     ensures kept { Kept table.old table.new }

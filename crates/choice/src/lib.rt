@@ -37,7 +37,12 @@ fn choose(table: &mut LentTable, f: Row, x: Row, y: Row) -> Result<Row, Refusal>
 }
 
 // R35: the choice by row f of the sets with heads `made` and y, over one table, cells in order.
-pub fn choose_heads(f: Row, y: &[u16], table: &mut LentTable, made: &mut [u16]) -> Result<(), Refusal>
+pub fn choose_heads(
+    f: Row,
+    y: &[u16],
+    table: &mut LentTable,
+    made: &mut [u16],
+) -> Result<(), Refusal>
     requires { Choosing (length made.old) f.0 y.now table.old made.old }
     ensures kept { Kept table.old table.new }
     ensures chooses { Chooses (length made.old) f.0 y.now table.old made.old result table.new made.new }
