@@ -32,7 +32,7 @@ use Rattle.rows.specs.Table.{Stored, Exceeds}
 use Rattle.rows.specs.Stored.{exceeds-more, kept_refl}
 use Rattle.rows.specs.Making.{Drawn}
 use Rattle.writer.specs.Writes.{Writes, refused_writes}
-use Rattle.writer.specs.Finish.{Finishing, Finishes, finish-full, drawn-finishing, drawn-finishes}
+use Rattle.writer.specs.Finish.{Finishing, Finishes, finish-full}
 use Rattle.build.specs.Contract.{answer, Builds, Ready}
 use Rattle.turn.specs.Turning.{built, Building}
 
@@ -153,19 +153,19 @@ module _ (file : List ℕ) (sh : Shape) (n : ℕ) (s : LentTable) (heads : List 
 
   pub finishing : (C : ℕ) → C ≡ cells (shape_of sh) → (numbers : ℕ) → room_of s ≤ numbers
       → Finishing (shape_of sh) (take C heads) s.rows.now s.state numbers
-  finishing C e numbers l = drawn-finishing (shape_of sh) (drawn C e) stands shaped numbers (omega (arith, b.stored.held))
-    where
-      stands : Stands (cells (shape_of sh)) (transfer (program_in file))
-      stands = subst (λ (x : R.Shape). Stands (cells x) (transfer (program_in file))) (sym place.shaped)
-          (transfer-stands (program_in file) (formed file sh n 0 place))
-
-      shaped : check_shape old (shape_of sh) ≡ granted tt
-      shaped = subst (λ (x : R.Shape). check_shape old x ≡ granted tt) (sym place.shaped)
-          (read-shape old file (program_in file) place.accepted)
+  finishing C e numbers l = record {
+    made = transfer (program_in file);
+    drawn = drawn C e;
+    stands = subst (λ (x : R.Shape). Stands (cells x) (transfer (program_in file))) (sym place.shaped)
+        (transfer-stands (program_in file) (formed file sh n 0 place));
+    shaped = subst (λ (x : R.Shape). check_shape old x ≡ granted tt) (sym place.shaped)
+        (read-shape old file (program_in file) place.accepted);
+    enough = omega (arith, b.stored.held);
+  }
 
   -- R54, R59: what the rules finish with is what they answer.
   pub finished : (C : ℕ) → C ≡ cells (shape_of sh) → (m numbers lent : ℕ) → length s.rows.now ≡ m → Ready file sh n m numbers lent
       → (r : Answer ℕ) (out after : List ℕ) → Finishes (shape_of sh) (take C heads) s.rows.now s.state r out after
       → Writes (answer file m numbers lent out) r out after
   finished C e m numbers lent size w r out after g =
-      rw (answer-is file m numbers lent out sh n place w, ← size) (drawn-finishes (shape_of sh) (drawn C e) r out after g)
+      rw (answer-is file m numbers lent out sh n place w, ← size) (g (transfer (program_in file)) (drawn C e))

@@ -24,7 +24,7 @@ use Rattle.rows.specs.Table.{Exceeds}
 use Rattle.rows.specs.Making.{Drawn}
 use Rattle.rows.specs.Stored.{stored-length, exceeds-more, kept_refl}
 use Rattle.writer.specs.Writes.{Writes, refused_writes}
-use Rattle.writer.specs.Finish.{Finishing, Finishes, finish-full, drawn-finishing, drawn-finishes}
+use Rattle.writer.specs.Finish.{Finishing, Finishes, finish-full}
 use Rattle.sets.specs.Spelt.{set_in, rows_in, Taken, spelt-shape, spelt-length, taken-read, taken_proper}
 use Rattle.compose.specs.declared.Blame.TheVariants.{First, Second, Neither}
 use Rattle.carry.specs.Carrying.{Pair, Moving, carried, new_heads}
@@ -193,17 +193,22 @@ module _ (first second : List ℕ) (shape : Shape) (s : LentTable) (numbers : Li
     }
 
     pub finishing : Finishing (shape_of shape) heads s.rows.now s.state (length numbers)
-    finishing = drawn-finishing (shape_of shape) drawn (stands first second shape f.carrying.pair)
-        (shape-checked first second shape f.carrying.pair) (length numbers) (omega (
-          arith,
-          stored-length drawn.stored,
-          composed-few first second shape f.carrying.pair numbers s f.carrying,
-          f.ready.numbers_lent,
-        ))
+    finishing = record {
+      made = composed (set_in first) (set_in second);
+      drawn = drawn;
+      stands = stands first second shape f.carrying.pair;
+      shaped = shape-checked first second shape f.carrying.pair;
+      enough = omega (
+        arith,
+        stored-length drawn.stored,
+        composed-few first second shape f.carrying.pair numbers s f.carrying,
+        f.ready.numbers_lent,
+      );
+    }
 
     -- R54, R59: what the rules finish with is what they answer.
     pub finished : (r : Answer ℕ) (out after : List ℕ) → Finishes (shape_of shape) heads s.rows.now s.state r out after
         → Writes (answer first second (length s.rows.now) (length numbers) out) r out after
     finished r out after w =
         rw (finish-is first second shape f.carrying.pair (length s.rows.now) (length numbers) out f.ready)
-        (drawn-finishes (shape_of shape) drawn r out after w)
+        (w (composed (set_in first) (set_in second)) drawn)

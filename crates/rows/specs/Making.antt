@@ -11,8 +11,9 @@ use Rattle.laws.specs.Grow.{ext_length, grown_ext}
 use Rattle.laws.specs.After.{carry_row-grown}
 use Rattle.base.specs.Answers.{Answer}
 use Rattle.base.specs.declared.kinds.Row as K
+use Rattle.table.specs.declared.Table.{Table}
 use Rattle.table.specs.declared.LentTable.{LentTable}
-use Rattle.rows.specs.Table.{Stored, Ends, Gives, Addable}
+use Rattle.rows.specs.Table.{StoredIn, Stored, Ends, Gives, Addable}
 use Rattle.table.specs.Append.{Kept}
 use Rattle.rows.specs.Stored.{stored-length, ends-before}
 
@@ -26,10 +27,13 @@ pub record Open (C : ℕ) (s : LentTable) : Type 0 where
 abbrev pub Makes : ℕ → LentTable → (List Row → R.Added) → Answer K.Row → LentTable → Type 0
 Makes C s f r s' = (t : List Row) → Canonical C t → Stored s t → Gives s r s' (f t)
 
--- The table of the heads h of the rules is stored, and the heads are theirs.
-pub record Drawn (s : LentTable) (heads : List ℕ) (h : Heads) : Type 0 where
-  pub stored : Stored s h.tab
+-- The table of the heads h of the rules is stored in a slice, and the heads are theirs.
+pub record DrawnIn (rows : List ℕ) (s : Table) (heads : List ℕ) (h : Heads) : Type 0 where
+  pub stored : StoredIn rows s h.tab
   pub same : heads ≡ h.heads
+
+abbrev pub Drawn : LentTable → List ℕ → Heads → Type 0
+Drawn s heads h = DrawnIn s.rows.now s.state heads h
 
 -- R53, R54: what a call answers and leaves stands for the heads h of the rules.
 abbrev pub Draws : {A : Type 0} → LentTable → Answer A → LentTable → List ℕ → Heads → Type 0

@@ -1,5 +1,6 @@
 -- A table in a lent slice: what it holds, and what adding to it answers and leaves.
 use Rattle.std.specs.Prelude.{ℕ, ◌≤◌, ◌<◌, ◌≡◌, List, length, get_or, Ok, Err}
+use Rattle.rules.specs.Room.{room}
 use Rattle.rules.specs.Rows.{Row, make, plan, settle, add}
 use Rattle.rules.specs.Rows as R
 use Rattle.laws.specs.Canonical.{Canonical}
@@ -8,16 +9,20 @@ use Rattle.base.specs.Answers.{Answer}
 use Rattle.base.specs.declared.kinds.Row as K
 use Rattle.base.specs.declared.refusal.Refusal.{Refusal}
 use Rattle.base.specs.declared.refusal.Refusal.TheVariants.{NoRoom}
+use Rattle.table.specs.declared.Table.{Table}
 use Rattle.table.specs.declared.LentTable.{LentTable}
 use Rattle.table.specs.Append.{room_of}
 use Rattle.rows.specs.Entries.{node_row, entry, row_of_entry, table_in}
 use Rattle.rows.specs.declared.node.Node.{Node}
 
--- The numbers of the rows that are used are t's rows, each in its own number.
-pub record Stored (s : LentTable) (t : List Row) : Type 0 where
-  pub held : s.state.used ≤ room_of s
-  pub table : table_in s.rows.now s.state.used ≡ t
-  pub entries : (i : ℕ) → i < s.state.used → entry (row_of_entry (get_or s.rows.now i 0)) ≡ get_or s.rows.now i 0
+-- The first numbers of a slice, as many as are used, are t's rows, each in its own number.
+pub record StoredIn (rows : List ℕ) (s : Table) (t : List Row) : Type 0 where
+  pub held : s.used ≤ room (length rows)
+  pub table : table_in rows s.used ≡ t
+  pub entries : (i : ℕ) → i < s.used → entry (row_of_entry (get_or rows i 0)) ≡ get_or rows i 0
+
+abbrev pub Stored : LentTable → List Row → Type 0
+Stored s t = StoredIn s.rows.now s.state t
 
 -- R54: the table t has more rows than there is room for, and is refused with the rows that may be used.
 pub record Exceeds (s : LentTable) (x : Refusal) (t : List Row) : Type 0 where

@@ -9,7 +9,7 @@ choose_heads-requires-in-Jsc c =
     call_choosing c.requires _ (omega arith) (c.in_ok-follow-in-Jsc.ensures.follows c.requires) c.follow-in-Jsc.auto.made
 
 pub returns-in-Jpc-clause-jumps : goal.returns-in-Jpc-clause-jumps
-returns-in-Jpc-clause-jumps c = rw c.in-Jpc.is (λ w. jumps_jpc w _ (omega arith) _ _ _ c.choose_heads.ensures.chooses)
+returns-in-Jpc-clause-jumps c = rw c.in-Jpc.is (λ w. jumps_jpc w _ (omega arith) _ c.choose_heads.new.table _ c.choose_heads.ensures.chooses)
 
 pub returns-in_err-follow-in-Jsc-clause-jumps : goal.returns-in_err-follow-in-Jsc-clause-jumps
 returns-in_err-follow-in-Jsc-clause-jumps c =
@@ -19,4 +19,5 @@ pub returns-in_ok-follow-in-Jsc-clause-jumps : goal.returns-in_ok-follow-in-Jsc-
 returns-in_ok-follow-in-Jsc-clause-jumps c =
     let called = c.in_ok-follow-in-Jsc.ensures in
     rw c.in-Jsc.is
-    (λ w. jumps_jsc w _ (omega arith) (called.follows w) c.follow-in-Jsc.auto.made called.kept _ _ _ c.choose_heads-in-Jsc.ensures.chooses)
+    (λ w. jumps_jsc w _ (omega arith) (called.follows w) c.follow-in-Jsc.auto.made called.kept _ c.choose_heads-in-Jsc.new.table _
+    c.choose_heads-in-Jsc.ensures.chooses)

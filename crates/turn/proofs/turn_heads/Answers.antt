@@ -18,7 +18,7 @@ own_alone-requires c = owning c.requires
 
 pub returns-in-End-clause-turned : goal.returns-in-End-clause-turned
 returns-in-End-clause-turned c =
-    end_turned c.requires _ _ _ (rw c.in-End.is at c.own_alone.ensures.owns)
+    end_turned c.requires _ c.own_alone.new.table _ (rw c.in-End.is at c.own_alone.ensures.owns)
     (told c.requires c.instr_at.ensures c.in-Alone.is ∙ ap on_alone c.in-End.is)
 
 pub own_alone-requires-in_default : goal.own_alone-requires-in_default
@@ -76,7 +76,8 @@ jump_heads-requires c =
 pub returns-in-Label-clause-turned : goal.returns-in-Label-clause-turned
 returns-in-Label-clause-turned c =
     jump_turned c.requires _ _ (told c.requires c.instr_at.ensures c.in-Label.is) _ (rw c.cells-cells.ensures at c.slot_in-ahead.ensures) _
-    (c.copy_heads.ensures ∙ (rw c.cells-cells.ensures at c.slot_in.ensures)) _ _ _ c.jump_heads.ensures.jumps
+    (c.copy_heads.ensures ∙ (rw c.cells-cells.ensures at c.slot_in.ensures)) _ c.jump_heads.new.table _
+    c.jump_heads.ensures.jumps
 
 pub unreachable-requires : goal.unreachable-requires
 unreachable-requires c = never-unknown c.requires c.instr_at.ensures c.in-Unknown.is
@@ -125,4 +126,4 @@ follow-requires c =
 pub returns-clause-turned : goal.returns-clause-turned
 returns-clause-turned c =
     plain-turned c.requires (acted (goal.at.returns-clause-turned c).Joined-instr_at) _ (rw c.cells-cells.ensures at c.slot_in-2.ensures)
-    _ _ _ c.follow.ensures.follows
+    _ c.follow.new.table _ c.follow.ensures.follows

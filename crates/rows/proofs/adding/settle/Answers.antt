@@ -16,7 +16,7 @@ find_entry-at-requires c =
 
 pub returns-then-at-used-clause-settles : goal.returns-then-at-used-clause-settles
 returns-then-at-used-clause-settles c =
-    settle-stood _ c.args.node _ _ _ c.entry_of-entry.ensures c.last_operand-last.ensures
+    settle-stood c.args.table.now c.args.node _ _ _ c.entry_of-entry.ensures c.last_operand-last.ensures
     (rw (c.rows.ensures, c.used-used.ensures) at c.find_entry-at.ensures.0) (omega (arith, c.if-at-used.true)) _ refl
 
 pub returns-in_err-append-clause-settles : goal.returns-in_err-append-clause-settles
