@@ -13,7 +13,6 @@ use Rattle.laws.specs.Search.{last_of, last-low, find-from, none_to_last}
 use Rattle.base.specs.Answers.{Answer}
 use Rattle.base.specs.declared.kinds.Row as K
 use Rattle.base.specs.declared.refusal.Refusal.{Refusal}
-use Rattle.table.specs.declared.Table.{Table}
 use Rattle.table.specs.declared.LentTable.{LentTable}
 use Rattle.table.specs.Append.{More, Full}
 use Rattle.rows.specs.declared.node.Node.{Node}
@@ -155,9 +154,9 @@ pub ready_slice : (rows : List ℕ) (used : ℕ) (r : Row) → used ≤ room (le
 ready_slice rows used r h b = below_more used (length rows) r (omega arith) (ready-below used r b)
 
 -- A slice of rows plans as the table that it stores.
-stored-plan : {rows : List ℕ} {s : Table} {t : List Row} → StoredIn rows s t → (r : Row) → Below (length t) r
+stored-plan : {rows : List ℕ} {used : ℕ} {t : List Row} → StoredIn rows used t → (r : Row) → Below (length t) r
     → plan (map row_of_entry rows) r ≡ plan t r
-stored-plan {rows} {s} {t} w r h =
+stored-plan {rows} {t = t} w r h =
     plan-kept t (map row_of_entry rows) (λ i l. slice_row rows i ∙ sym (stored_row w i (omega (arith, stored-length w)))) r h
 
 module _ (s : LentTable) (n : Node) (p : P.Plan) (planned : plan_row p ≡ plan (map row_of_entry s.rows.now) (node_row n)) where

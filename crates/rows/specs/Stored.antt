@@ -11,7 +11,6 @@ use Rattle.rules.specs.Rows.{Row, leaf, row_at}
 use Rattle.base.specs.Answers.{Answer}
 use Rattle.base.specs.declared.refusal.Refusal.{Refusal}
 use Rattle.base.specs.declared.refusal.Refusal.TheVariants.{NoRoom}
-use Rattle.table.specs.declared.Table.{Table}
 use Rattle.table.specs.declared.LentTable.{LentTable}
 use Rattle.table.specs.Append.{Kept, More, Full}
 use Rattle.rows.specs.Entries.{entry, row_of_entry, table_in, Narrow, entry-back}
@@ -31,12 +30,12 @@ pub table-row : (rows : List ℕ) (used i : ℕ) → i < used → row_at (table_
 table-row rows used i h = slice_row (take used rows) i ∙ ap row_of_entry (get_or-take used rows i 0 h)
 
 -- What a table stores, row by row.
-module _ {rows : List ℕ} {s : Table} {t : List Row} (w : StoredIn rows s t) where
-  pub stored-length : length t ≡ s.used
-  stored-length = ap length (sym w.table) ∙ table-length rows s.used (omega (arith, w.held))
+module _ {rows : List ℕ} {used : ℕ} {t : List Row} (w : StoredIn rows used t) where
+  pub stored-length : length t ≡ used
+  stored-length = ap length (sym w.table) ∙ table-length rows used (omega (arith, w.held))
 
-  pub stored_row : (i : ℕ) → i < s.used → row_at t i ≡ row_of_entry (get_or rows i 0)
-  stored_row i h = ap (λ u. row_at u i) (sym w.table) ∙ table-row rows s.used i h
+  pub stored_row : (i : ℕ) → i < used → row_at t i ≡ row_of_entry (get_or rows i 0)
+  stored_row i h = ap (λ u. row_at u i) (sym w.table) ∙ table-row rows used i h
 
 module _ {s : LentTable} {t : List Row} (w : Stored s t) where
   -- A longer table has more rows than there is room for where no row is left.

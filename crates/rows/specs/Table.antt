@@ -9,20 +9,20 @@ use Rattle.base.specs.Answers.{Answer}
 use Rattle.base.specs.declared.kinds.Row as K
 use Rattle.base.specs.declared.refusal.Refusal.{Refusal}
 use Rattle.base.specs.declared.refusal.Refusal.TheVariants.{NoRoom}
-use Rattle.table.specs.declared.Table.{Table}
 use Rattle.table.specs.declared.LentTable.{LentTable}
 use Rattle.table.specs.Append.{room_of}
 use Rattle.rows.specs.Entries.{node_row, entry, row_of_entry, table_in}
 use Rattle.rows.specs.declared.node.Node.{Node}
 
--- The first numbers of a slice, as many as are used, are t's rows, each in its own number.
-pub record StoredIn (rows : List ℕ) (s : Table) (t : List Row) : Type 0 where
-  pub held : s.used ≤ room (length rows)
-  pub table : table_in rows s.used ≡ t
-  pub entries : (i : ℕ) → i < s.used → entry (row_of_entry (get_or rows i 0)) ≡ get_or rows i 0
+-- The first `used` numbers of a slice are t's rows, each in its own number.
+pub record StoredIn (rows : List ℕ) (used : ℕ) (t : List Row) : Type 0 where
+  pub held : used ≤ room (length rows)
+  pub table : table_in rows used ≡ t
+  pub entries : (i : ℕ) → i < used → entry (row_of_entry (get_or rows i 0)) ≡ get_or rows i 0
 
+-- The rows of a lent table that are used.
 abbrev pub Stored : LentTable → List Row → Type 0
-Stored s t = StoredIn s.rows.now s.state t
+Stored s t = StoredIn s.rows.now s.state.used t
 
 -- R54: the table t has more rows than there is room for, and is refused with the rows that may be used.
 pub record Exceeds (s : LentTable) (x : Refusal) (t : List Row) : Type 0 where
