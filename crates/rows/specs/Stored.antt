@@ -29,7 +29,7 @@ table-length rows used h = length-map (take used rows) row_of_entry ∙ length-t
 pub table-row : (rows : List ℕ) (used i : ℕ) → i < used → row_at (table_in rows used) i ≡ row_of_entry (get_or rows i 0)
 table-row rows used i h = slice_row (take used rows) i ∙ ap row_of_entry (get_or-take used rows i 0 h)
 
--- What a table stores, row by row.
+-- What a slice of rows stores, row by row.
 module _ {rows : List ℕ} {used : ℕ} {t : List Row} (w : StoredIn rows used t) where
   pub stored-length : length t ≡ used
   stored-length = ap length (sym w.table) ∙ table-length rows used (omega (arith, w.held))
@@ -37,6 +37,7 @@ module _ {rows : List ℕ} {used : ℕ} {t : List Row} (w : StoredIn rows used t
   pub stored_row : (i : ℕ) → i < used → row_at t i ≡ row_of_entry (get_or rows i 0)
   stored_row i h = ap (λ u. row_at u i) (sym w.table) ∙ table-row rows used i h
 
+-- What a lent table stores.
 module _ {s : LentTable} {t : List Row} (w : Stored s t) where
   -- A longer table has more rows than there is room for where no row is left.
   pub exceeds-full : {s' : LentTable} {x : Refusal} {u : List Row} → Full s x s' → length t < length u → Exceeds s x u
