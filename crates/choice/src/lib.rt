@@ -1,7 +1,7 @@
 // Choice by a row between two sets over one table (R35).
 #![tactic(auto)]
 
-ghost use Rattle.std.specs.Prelude.{◌≡◌, length};
+ghost use Rattle.std.specs.Prelude.{length};
 ghost use Rattle.rules.specs.Sets as S;
 ghost use Rattle.table.specs.Append.{Kept};
 ghost use Rattle.choice.specs.Choosing.{Choosable, Picks, Choosing, Chooses};

@@ -1,6 +1,6 @@
 -- Laws of adding to a table in a lent slice.
-use Rattle.std.specs.Prelude.{ℕ, zero, suc, ◌+◌, ◌-◌, ◌/◌, ◌%◌, ◌≤◌, ◌<◌, min, max, ◌≡◌, refl, Bool, true, false, cond, eqb, Ok, Err}
-use Rattle.std.specs.Prelude.{List, [], ◌∷◌, map, length, get_or}
+use Rattle.std.specs.Prelude.{ℕ, zero, suc, ◌+◌, ◌-◌, ◌/◌, ◌%◌, ◌≤◌, ◌<◌, min, max, ◌≡◌, refl}
+use Rattle.std.specs.Prelude.{Bool, true, false, cond, eqb, Ok, Err, List, [], ◌∷◌, map, length, get_or}
 use Rattle.std.proofs.Common.{ap, sym, ◌∙◌, arith, length-append}
 use Rattle.rules.specs.Lists.{seek}
 use Rattle.rules.specs.Room.{room}

@@ -27,12 +27,12 @@ pub record Open (C : ℕ) (s : LentTable) : Type 0 where
 abbrev pub Makes : ℕ → LentTable → (List Row → R.Added) → Answer K.Row → LentTable → Type 0
 Makes C s f r s' = (t : List Row) → Canonical C t → Stored s t → Gives s r s' (f t)
 
--- The table of the heads h of the rules is stored in a slice, in its state, and the heads are theirs.
+-- The table of the heads h of the rules is stored in a slice, in as many rows as the state says, and the heads are theirs.
 pub record DrawnIn (rows : List ℕ) (s : Table) (heads : List ℕ) (h : Heads) : Type 0 where
   pub stored : StoredIn rows s.used h.tab
   pub same : heads ≡ h.heads
 
--- It is stored in a lent table.
+-- So it is in a lent table.
 abbrev pub Drawn : LentTable → List ℕ → Heads → Type 0
 Drawn s heads h = DrawnIn s.rows.now s.state heads h
 

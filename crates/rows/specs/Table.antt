@@ -20,7 +20,7 @@ pub record StoredIn (rows : List ℕ) (used : ℕ) (t : List Row) : Type 0 where
   pub table : table_in rows used ≡ t
   pub entries : (i : ℕ) → i < used → entry (row_of_entry (get_or rows i 0)) ≡ get_or rows i 0
 
--- The rows of a lent table that are used.
+-- So are the rows of a lent table that are used.
 abbrev pub Stored : LentTable → List Row → Type 0
 Stored s t = StoredIn s.rows.now s.state.used t
 

@@ -69,7 +69,8 @@ module _ {sh : Shape} {y : List ℕ} {s : LentTable} {made : List ℕ} {n : ℕ}
   pub call_full : {e : Refusal} → Exceeds s e F.tab → Exceeds s e (jumped sh Jsc w.first y).tab
   call_full o = exceeds-more (kept_refl s) o (ext_length (grown_ext (choice-grown F.tab (row_of_cell (flag sh)) F.heads y)))
 
-  module _ (f : ℕ) (e : f ≡ row_of_cell (flag sh)) {s₁ : LentTable} {made₁ : List ℕ} (g : Drawn s₁ made₁ F) (size : length made₁ ≡ length made) where
+  module _ (f : ℕ) (e : f ≡ row_of_cell (flag sh)) {s₁ : LentTable} {made₁ : List ℕ} (g : Drawn s₁ made₁ F)
+      (size : length made₁ ≡ length made) where
     abbrev pub call_choosing : Choosing (length made₁) f y s₁ made₁
     call_choosing = record {
       first = F;
